@@ -1,0 +1,5 @@
+pub mod Columns
+pub mod Decimal
+pub mod Escape
+pub mod Field
+pub mod Lines

@@ -1,0 +1,55 @@
+ghost use Rattle.std.specs.Prelude.{◌≡◌};
+ghost use Rattle.sb_text.specs.Columns.{columns_of};
+
+use crate::splitting::split_once;
+use std::marker::Model;
+
+const TAB: u8 = b'\t';
+
+/// The columns of a line, from the first on: what stands between its tabs. A line has one column more than tabs.
+#[derive(Debug, Drop)]
+pub struct Columns<'a> {
+    rest: Option<&'a [u8]>,
+}
+
+impl<'a> Model for Columns<'a> {
+    ghost use Rattle.std.specs.Prelude.{List, ℕ};
+    ghost use Rattle.sb_text.specs.Columns.{columns_left};
+
+    ghost Value = { List (List ℕ) };
+
+    ghost view = { λ s. columns_left s.rest };
+}
+
+impl<'a> Columns<'a> {
+    /// The columns of a line without its LF.
+    pub fn new(line: &'a [u8]) -> Self
+        ensures { result ≡ columns_of line.now }
+    {
+        Columns { rest: Some(line) }
+    }
+}
+
+impl<'a> Iterator for Columns<'a> {
+    ghost use Rattle.std.specs.Iterator.{YieldsFirstRef, item_count};
+
+    type Item = &'a [u8];
+
+    ghost next_gives = { YieldsFirstRef (λ s. s) };
+
+    ghost remaining = { item_count (λ s. s) };
+
+    fn next(&mut self) -> Option<&'a [u8]> {
+        let line = self.rest?;
+        match split_once(line, TAB) {
+            Some((column, rest)) => {
+                self.rest = Some(rest);
+                Some(column)
+            }
+            None => {
+                self.rest = None;
+                Some(line)
+            }
+        }
+    }
+}

@@ -1,0 +1,17 @@
+//! Texts and their spellings: UTF-8 texts, lines and columns, decimals, escapes.
+#![tactic(auto)]
+
+mod columns;
+mod decimal;
+mod escaping;
+mod fields;
+mod lines;
+mod splitting;
+mod text;
+
+pub use columns::Columns;
+pub use decimal::{read_i64, read_u64, write_i64, write_u64};
+pub use escaping::escape;
+pub use fields::field_unescape;
+pub use lines::{Line, Lines};
+pub use text::{NoMemory, Text};

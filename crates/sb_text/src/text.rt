@@ -1,0 +1,50 @@
+ghost use Rattle.std.specs.Prelude.{◌≡◌, ◌↔◌, IsUtf8, IsSome, IfSome, IfOk};
+
+use std::alloc::{AllocError, Global};
+use std::marker::Model;
+
+/// Want of memory.
+pub type NoMemory = AllocError;
+
+/// A text in UTF-8. Contracts see its bytes, and it is compared by them.
+#[derive(Debug, Drop)]
+pub struct Text {
+    text: String,
+}
+
+impl Model for Text {
+    ghost use Rattle.std.specs.Prelude.{List, ℕ, string_bytes};
+
+    ghost Value = { List ℕ };
+
+    ghost view = { λ t. string_bytes t.text };
+}
+
+impl Text {
+    /// The bytes as a text, where they are UTF-8. Takes no memory.
+    pub fn from_bytes(bytes: Vec<u8>) -> Option<Text>
+        ensures value { IfSome result (λ text. text ≡ bytes.items) }
+        ensures utf8 { IsSome result ↔ IsUtf8 bytes.items }
+    {
+        match String::from_utf8(bytes) {
+            Ok(text) => Some(Text { text }),
+            Err(_) => None,
+        }
+    }
+
+    /// The text's bytes.
+    pub fn as_bytes(&self) -> &[u8]
+        ensures value { result.now ≡ self.now }
+        ensures utf8 { IsUtf8 result.now }
+    {
+        self.text.as_bytes()
+    }
+
+    /// An equal text.
+    pub fn copy(&self, alloc: Global) -> Result<Text, NoMemory>
+        ensures value { IfOk result (λ text. text ≡ self.now) }
+    {
+        let text = String::from_str(alloc, &self.text)?;
+        Ok(Text { text })
+    }
+}
