@@ -1,0 +1,34 @@
+ghost use Rattle.std.specs.Prelude.{ℕ, List};
+ghost use Rattle.sb_io.specs.Shelf.{Content, IsFetched, Fetches, HasShelfCause};
+
+use std::alloc::Global;
+
+/// A whole file, or the news that it has more bytes than were asked for.
+#[derive(Debug, Drop)]
+pub enum Fetched {
+    All(Vec<u8>),
+    Longer,
+}
+
+/// Why a file isn't had: a fault of the shelf, which its count of faults shows, or want of memory.
+#[derive(Clone, Copy, Debug, PartialEq, Eq)]
+pub enum ShelfError {
+    Failed,
+    NoMemory,
+}
+
+/// Files by name.
+pub trait Shelf {
+    /// What it tells of the file of each name.
+    ghost content: { Self → List ℕ → Content };
+
+    /// How often a fetch of each name failed, up to the greatest u64.
+    ghost faults: { Self → List ℕ → ℕ };
+
+    /// The bytes of the file of this name, or `Longer` exactly where it has more than `limit`.
+    /// A name without a file is a fault.
+    fn fetch(&mut self, alloc: Global, name: &str, limit: u64) -> Result<Fetched, ShelfError>
+        ensures file { IsFetched limit (content self.old name.now) result }
+        ensures frame { Fetches name.now (content self.old) (content self.new) (faults self.old) (faults self.new) }
+        ensures cause { HasShelfCause name.now (faults self.old) (faults self.new) result };
+}
