@@ -1,0 +1,7 @@
+pub mod Sums
+pub mod Halves
+pub mod Permuted
+pub mod Positions
+pub mod Sets
+pub mod Tables
+pub mod InPlace

@@ -1,0 +1,4 @@
+use Rattle.sb_laws.proofs.folds.+fold_next.Given as goal
+
+abbrev pub decreases-fold_next : goal.decreases-fold_next
+decreases-fold_next g l = l.count
