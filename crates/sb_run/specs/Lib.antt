@@ -1,9 +1,5 @@
-pub mod Call
-pub mod Due
 pub mod Fold
 pub mod Log
-pub mod Program
 pub mod Report
 pub mod Schema
 pub mod Value
-pub mod Views

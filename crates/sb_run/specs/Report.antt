@@ -17,7 +17,7 @@ fold_text value_text (Some value) = value_text value
 
 -- STORE, tab, KEY, tab, VALUE, LF
 abbrev pub row_text : List ℕ → List ℕ → List ℕ → List ℕ
-row_text store key value = store ++ 9 ∷ key ++ 9 ∷ value ++ 10 ∷ []
+row_text store key value = store ++ (9 ∷ key ++ (9 ∷ value ++ 10 ∷ []))
 
 -- the rows of a store
 abbrev pub store_report : {E : Type 0} → (E → E → E) → (E → List ℕ) → List ℕ → List (Emission E) → List ℕ

@@ -1,4 +1,4 @@
-ghost use Rattle.std.specs.Prelude.{◌≡◌};
+ghost use Rattle.std.specs.Prelude.{◌≡◌, ◌==◌, ◌≤◌, filter, length};
 ghost use Rattle.sb_text.specs.Columns.{columns_of};
 
 use crate::splitting::split_once;
@@ -28,6 +28,29 @@ impl<'a> Columns<'a> {
     {
         Columns { rest: Some(line) }
     }
+
+    /// The number of columns that are left.
+    pub fn left(&self) -> usize
+        ensures { result ≡ length self.now }
+    {
+        match self.rest {
+            Some(rest) => count_columns(rest),
+            None => 0,
+        }
+    }
+}
+
+fn count_columns(line: &[u8]) -> usize
+    ensures { result ≡ length (columns_of line.now) }
+{
+    count_tabs(line) + 1
+}
+
+fn count_tabs(line: &[u8]) -> usize
+    ensures count { result ≡ length (filter (λ byte. byte == 9) line.now) }
+    ensures bound { result ≤ length line.now }
+{
+    line.iter().filter(|byte| **byte == TAB).count()
 }
 
 impl<'a> Iterator for Columns<'a> {

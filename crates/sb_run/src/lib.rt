@@ -1,0 +1,5 @@
+//! The commands: from words, files and a sink to the bytes that are written and the status.
+#![tactic(auto)]
+
+mod log;
+mod program;
