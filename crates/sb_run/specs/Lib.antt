@@ -3,3 +3,4 @@ pub mod Log
 pub mod Report
 pub mod Schema
 pub mod Value
+pub mod Views

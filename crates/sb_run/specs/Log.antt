@@ -1,9 +1,9 @@
 -- The log: which lines are good, and the records that they say.
 use Rattle.std.specs.Prelude.{ℕ, suc, ◌+◌, ◌-◌, ◌==◌, nat_lt, ℤ, int_lt, Bool, true, false, codes, List, [], ◌∷◌, length, Option, Some, None, Result, Ok, Err, option_map, if◌then◌else◌}
-use Rattle.std.specs.Str.{bytes_eq, is_utf8}
+use Rattle.std.specs.Str.{bytes_eq}
 use Rattle.sb_text.specs.Columns.{columns_of}
 use Rattle.sb_text.specs.Decimal.{integer}
-use Rattle.sb_text.specs.Field.{field_unescaped}
+use Rattle.sb_text.specs.Field.{field_text}
 use Rattle.sb_text.specs.Lines.{Line, lines_of}
 use Rattle.sb_run.specs.Schema.{Schema, Source, batch_of}
 use Rattle.sb_run.specs.Value.{Value, int, text, truth}
@@ -23,15 +23,10 @@ pub record LogRecord : Type 0 where
 abbrev pub truth_of : List ℕ → Option Bool
 truth_of bytes = if bytes_eq bytes (codes "true") then Some true else (if bytes_eq bytes (codes "false") then Some false else None)
 
--- bytes that are a text
-abbrev pub utf8_of : Option (List ℕ) → Option (List ℕ)
-utf8_of None = None
-utf8_of (Some bytes) = if is_utf8 bytes then Some bytes else None
-
 -- the value that a field spells, by its type
 abbrev pub value_of : FieldType → List ℕ → Option Value
 value_of type.Int bytes = option_map int (integer bytes)
-value_of type.Text bytes = option_map text (utf8_of (field_unescaped bytes))
+value_of type.Text bytes = option_map text (field_text bytes)
 value_of type.Bool bytes = option_map truth (truth_of bytes)
 
 -- a field in front of the others; the first that isn't of its type is the bad one

@@ -1,6 +1,7 @@
 -- The escaped form of a text in a field of a log or a service.
 use Rattle.std.specs.Prelude.{ℕ, Bool, ◌||◌, ◌==◌, List, [], ◌∷◌, Option, Some, None, option_map, if◌then◌else◌}
 use Rattle.std.specs.List.{flat_map}
+use Rattle.std.specs.Str.{is_utf8}
 
 -- backslash, tab, LF and CR are a backslash and a letter, every other byte stands for itself
 abbrev pub field_escaped_byte : ℕ → List ℕ
@@ -43,6 +44,15 @@ abbrev mutual
   pub unescaped_after : List ℕ → Option (List ℕ)
   unescaped_after [] = None
   unescaped_after (c ∷ bytes) = onto_text (after_backslash c) (field_unescaped bytes)
+
+-- bytes that are a text
+abbrev pub utf8_of : Option (List ℕ) → Option (List ℕ)
+utf8_of None = None
+utf8_of (Some bytes) = if is_utf8 bytes then Some bytes else None
+
+-- the text that a field spells
+abbrev pub field_text : List ℕ → Option (List ℕ)
+field_text bytes = utf8_of (field_unescaped bytes)
 
 -- the bytes that the rest of a field spells, where a backslash stands before it or doesn't
 abbrev pub unescaped_rest : Bool → List ℕ → Option (List ℕ)

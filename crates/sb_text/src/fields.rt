@@ -1,5 +1,5 @@
 ghost use Rattle.std.specs.Prelude.{◌≡◌, IsUtf8, IfOk, IfSome, IfNone, Some, option_map};
-ghost use Rattle.sb_text.specs.Field.{field_unescaped, after_backslash};
+ghost use Rattle.sb_text.specs.Field.{field_unescaped, field_text, after_backslash};
 
 use crate::{NoMemory, Text};
 use std::alloc::Global;
@@ -7,6 +7,7 @@ use std::alloc::Global;
 /// The text that a field of a log or a service spells; `None` exactly where it spells none: at a raw tab, LF or CR, a
 /// backslash that begins no escape, or bytes that aren't UTF-8.
 pub fn field_unescape(alloc: Global, bytes: &[u8]) -> Result<Option<Text>, NoMemory>
+    ensures value { IfOk result (λ text. text ≡ field_text bytes.now) }
     ensures some { IfOk result (λ text. IfSome text (λ t. field_unescaped bytes.now ≡ Some t)) }
     ensures none { IfOk result (λ text. IfNone text (IfSome (field_unescaped bytes.now) (λ t. ¬ (IsUtf8 t)))) }
 {
