@@ -1,6 +1,10 @@
+pub mod Answer
+pub mod Call
 pub mod Fold
 pub mod Log
+pub mod Program
 pub mod Report
 pub mod Schema
+pub mod Totals
 pub mod Value
 pub mod Views

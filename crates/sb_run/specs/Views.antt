@@ -1,9 +1,11 @@
 -- What contracts see of the Rust types.
-use Rattle.std.specs.Prelude.{◌≡◌, ℕ, Bool, ◌||◌, nat_lt, List, ◌++◌, length, map, Result, Ok, Err, if◌then◌else◌}
+use Rattle.std.specs.Prelude.{◌≡◌, ℕ, ℤ, Bool, ◌||◌, nat_lt, List, ◌++◌, length, map, Result, Ok, Err, if◌then◌else◌}
 use Rattle.std.specs.Borrow.{Bor}
 use Rattle.std.specs.declared.vec.Vec.{Vec}
 use Rattle.std.specs.declared.alloc.Global.{Global}
 use Rattle.sb_run.specs.Log as log
+use Rattle.sb_run.specs.Fold.{Emission}
+use Rattle.sb_run.specs.Program as program
 use Rattle.sb_run.specs.Schema as schema
 use Rattle.sb_run.specs.Value as value
 use Rattle.sb_run.specs.declared.log.LineError.{LineError}
@@ -14,6 +16,9 @@ use Rattle.sb_run.specs.declared.log.LogError.TheVariants as log_error
 use Rattle.sb_run.specs.declared.log.LogRecord.{LogRecord}
 use Rattle.sb_run.specs.declared.log.Value.{Value}
 use Rattle.sb_run.specs.declared.log.Value.TheVariants as value_kind
+use Rattle.sb_run.specs.declared.emission.Emission as emitted
+use Rattle.sb_run.specs.declared.program.Field.{Field}
+use Rattle.sb_run.specs.declared.program.Program.{Program}
 use Rattle.sb_run.specs.declared.program.Schema.{Schema}
 use Rattle.sb_run.specs.declared.program.Source.{Source}
 
@@ -63,3 +68,23 @@ ReadsLog view said (Err log_error.NoMemory) = Unit {0}
 abbrev pub kept_before : List log.LogRecord → Bool → Result (List log.LogRecord) log.LogFault → Result (List log.LogRecord) log.LogFault
 kept_before kept too_many (Err fault) = Err fault
 kept_before kept too_many (Ok others) = if too_many || nat_lt 1048576 (length (kept ++ others)) then Err log.too_many else Ok (kept ++ others)
+
+abbrev pub field_view : Field → program.Field
+field_view field = record { name = field.name; type = field.field_type }
+
+abbrev pub program_view : Program → program.Program
+program_view program' = record {
+  length = program'.length;
+  from = program'.from;
+  source = program'.source;
+  fields = map field_view program'.fields.items;
+  store = program'.store;
+  key = program'.key;
+  value = program'.value;
+}
+
+abbrev pub emission_view : emitted.Emission → Emission ℤ
+emission_view emission = record { position = emission.position; key = emission.key; value = emission.value }
+
+abbrev pub emissions_view : Vec emitted.Emission Global → List (Emission ℤ)
+emissions_view emissions = map emission_view emissions.items

@@ -46,7 +46,7 @@ fn push_byte(out: &mut Vec<u8>, byte: u8) -> Result<(), NoMemory>
     out.extend_from_slice(&[b'%', hex(byte / 16), hex(byte % 16)])
 }
 
-fn is_plain_byte(byte: u8) -> bool
+pub(crate) fn is_plain_byte(byte: u8) -> bool
     ensures { result ≡ is_plain byte }
 {
     match byte {

@@ -6,6 +6,8 @@ mod decimal;
 mod escaping;
 mod fields;
 mod lines;
+mod order;
+mod printed;
 mod splitting;
 mod text;
 

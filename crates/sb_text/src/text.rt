@@ -1,4 +1,4 @@
-ghost use Rattle.std.specs.Prelude.{◌≡◌, ◌↔◌, IsUtf8, IsSome, IfSome, IfOk};
+ghost use Rattle.std.specs.Prelude.{◌≡◌, ◌↔◌, IsUtf8, IsSome, IfSome, IfOk, string_bytes};
 
 use std::alloc::{AllocError, Global};
 use std::marker::Model;
@@ -30,6 +30,13 @@ impl Text {
             Ok(text) => Some(Text { text }),
             Err(_) => None,
         }
+    }
+
+    /// The string as a text.
+    pub fn from_string(text: String) -> Text
+        ensures { result ≡ string_bytes text }
+    {
+        Text { text }
     }
 
     /// The text's bytes.

@@ -1,0 +1,81 @@
+-- Programs of the served form: one source, and one store that sums an int field by a key field.
+use Rattle.std.specs.Prelude.{◌≡◌, ℕ, ◌≤◌, ℤ, pos, codes, List, [], ◌∷◌, map, length, slice_index_or}
+use Rattle.std.specs.Int.{w64, int_wrapping_add}
+use Rattle.std.specs.Fmt.{signed_decimal}
+use Rattle.sb_run.specs.Fold.{Emission}
+use Rattle.sb_run.specs.Log.{LogRecord}
+use Rattle.sb_run.specs.Report.{store_report}
+use Rattle.sb_run.specs.Schema.{Schema, Source}
+use Rattle.sb_run.specs.Value.{Value, int, text, truth, value_text}
+use Rattle.sb_run.specs.declared.program.FieldType.{FieldType}
+use Rattle.sb_run.specs.declared.program.FieldType.TheVariants.{Int, Text}
+
+-- a field's name and type
+pub record Field : Type 0 where
+  pub name : List ℕ
+  pub type : FieldType
+
+-- the batches, the source, the store, and the places of the key field and of the int field that is summed
+pub record Program : Type 0 where
+  pub length : ℕ
+  pub from : ℤ
+  pub source : List ℕ
+  pub fields : List Field
+  pub store : List ℕ
+  pub key : ℕ
+  pub value : ℕ
+
+-- what its log is read by
+abbrev pub schema_of : Program → Schema
+schema_of program = record {
+  length = program.length;
+  from = program.from;
+  sources = record { name = program.source; fields = map (λ field. field.type) program.fields } ∷ [];
+}
+
+-- the wrapping sum
+abbrev pub plus : ℤ → ℤ → ℤ
+plus = int_wrapping_add w64
+
+-- the field at a place; where there is none, any value
+abbrev pub field_at : ℕ → List Value → Value
+field_at place fields = slice_index_or fields place (int (pos 0))
+
+-- the number of an int; of another value, any number
+abbrev pub number_of : Value → ℤ
+number_of (int number) = number
+number_of (text bytes) = pos 0
+number_of (truth is) = pos 0
+
+-- what a record emits into the store
+abbrev pub emission_of : Program → LogRecord → Emission ℤ
+emission_of program record' = record {
+  position = record'.position;
+  key = value_text (field_at program.key record'.fields);
+  value = number_of (field_at program.value record'.fields);
+}
+
+-- the report of the program on these records
+abbrev pub report_of : Program → List LogRecord → List ℕ
+report_of program records = store_report plus signed_decimal program.store (map (emission_of program) records)
+
+-- `batch 1000 from 0`, `source s (k: text, v: int)`, `store t = s | map (it.k, it.v) | sumByKey sum`
+abbrev pub served : Program
+served = record {
+  length = 1000;
+  from = pos 0;
+  source = codes "s";
+  fields = record { name = codes "k"; type = Text } ∷ record { name = codes "v"; type = Int } ∷ [];
+  store = codes "t";
+  key = 0;
+  value = 1;
+}
+
+abbrev pub served_text : List ℕ
+served_text = codes "batch 1000 from 0\nsource s (k: text, v: int)\nstore t = s | map (it.k, it.v) | sumByKey sum\n"
+
+-- the text is an accepted one, of this program
+pub record Accepts (bytes : List ℕ) (program : Program) : Type 0 where
+  pub short : length bytes ≤ 65536
+  pub spelled : bytes ≡ served_text
+  pub means : program ≡ served
