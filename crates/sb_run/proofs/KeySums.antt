@@ -1,6 +1,6 @@
 -- A map to which emissions are added one by one has their folds.
 use Rattle.std.proofs.Common.{◌≡◌, ℕ, ℤ, Bool, true, false, cond, List, [], ◌∷◌, ◌++◌, map, filter, fold, Option, Some, None, Ordering, refl, sym, ap, ◌∙◌, subst, arith, append-nil}
-use Rattle.std.specs.BTreeMap.{BTreeMap, get, keys, is_at, insert_entry, Updates}
+use Rattle.std.specs.BTreeMap.{BTreeMap, get, keys, is_at, insert_entry, Updates, IsOrdered}
 use Rattle.std.specs.BTreeSet.{insert_key}
 use Rattle.std.specs.Cmp.Lexicographic.{slice_cmp}
 use Rattle.std.specs.Map.{keys_of}
@@ -8,7 +8,7 @@ use Rattle.std.specs.Ordering.{nat_cmp, is_eq, match_ordering}
 use Rattle.std.specs.declared.cmp.Ordering.TheVariants.{Less, Equal, Greater}
 use Rattle.std.specs.Str.{bytes_eq}
 use Rattle.std.proofs.lemmas.Bool.Decides.{nat_tests}
-use Rattle.std.proofs.lemmas.Cmp.{same_from_slice_cmp}
+use Rattle.std.proofs.lemmas.Cmp.{same_from_slice_cmp, nat_list_cmp_total}
 use Rattle.std.proofs.lemmas.List.Sums.{fold-append}
 use Rattle.std.proofs.lemmas.Slice.Eq.{bytes_eq-Decides}
 use Rattle.sb_laws.specs.Sums.{sum_of, both_sums}
@@ -16,8 +16,12 @@ use Rattle.sb_laws.specs.Folds.{fold_over}
 use Rattle.sb_laws.proofs.Sums.{sum_last}
 use Rattle.sb_run.specs.Fold.{Emission, of_key, fold_of, everywhere}
 use Rattle.sb_run.specs.Program.{plus}
-use Rattle.sb_run.specs.Report.{rising_keys}
-use Rattle.sb_run.specs.Totals.{Totals, AreTotals, AddsOne}
+use Rattle.sb_run.specs.Report.{rising_keys, row_text, fold_text, store_report}
+use Rattle.sb_run.specs.Totals.{Totals, AreTotals, AddsOne, rows_of}
+use Rattle.std.specs.Fmt.{signed_decimal}
+use Rattle.std.specs.List.{AllByRecursion, flat_map}
+use Rattle.std.proofs.lemmas.List.Elements.{recursion_from_All}
+use Rattle.std.proofs.lemmas.Map.Views.{All-found}
 
 abbrev by_bytes : List ℕ → List ℕ → Ordering
 by_bytes = slice_cmp nat_cmp
@@ -35,8 +39,9 @@ keys-insert_entry R (e ∷ entries) k v = elim (R k e.0) as (λ o. keys_of (matc
     ]
 
 pub adds_one : (emission : Emission ℤ) (before now : Totals) (sum : ℤ) → Some sum ≡ both_sums plus (get by_bytes before emission.key) (Some emission.value)
-    → Updates by_bytes before now emission.key (Some sum) → now.entries ≡ insert_entry by_bytes before.entries emission.key sum → AddsOne emission before now
-adds_one emission before now sum is_sum updates inserted = record {
+    → Updates by_bytes before now emission.key (Some sum) → now.entries ≡ insert_entry by_bytes before.entries emission.key sum → IsOrdered by_bytes now → AddsOne emission before now
+adds_one emission before now sum is_sum updates inserted ordered = record {
+  ordered = ordered;
   rising = ap keys_of inserted ∙ keys-insert_entry by_bytes before.entries emission.key sum;
   each = λ key. updates.0 key ∙ at key;
 } where
@@ -95,6 +100,7 @@ fold-more add emissions emission key =
 pub are_totals_more : (emissions : List (Emission ℤ)) (emission : Emission ℤ) (before now : Totals)
     → AreTotals emissions before → AddsOne emission before now → AreTotals (emissions ++ emission ∷ []) now
 are_totals_more emissions emission before now are adds = record {
+  ordered = adds.ordered;
   rising = adds.rising ∙ (ap (λ ks. insert_key by_bytes ks emission.key) are.rising ∙ sym (rising_keys-last emissions emission));
   each = λ key. adds.each key
       ∙ (ap (λ sum. cond (bytes_eq emission.key key) (both_sums plus sum (Some emission.value)) sum) (are.each key) ∙ sym (fold-more plus emissions emission key));
@@ -102,3 +108,21 @@ are_totals_more emissions emission before now are adds = record {
   rising_keys-last : (emissions : List (Emission ℤ)) (emission : Emission ℤ) → rising_keys (emissions ++ emission ∷ []) ≡ insert_key by_bytes (rising_keys emissions) emission.key
   rising_keys-last emissions emission =
       ap (fold (insert_key by_bytes) []) (map-last (λ e. e.key) emissions emission) ∙ fold-append (insert_key by_bytes) [] (map (λ e. e.key) emissions) (emission.key ∷ [])
+
+rows_by_keys : (store : List ℕ) (emissions : List (Emission ℤ)) (rows : List (List ℕ × ℤ)) → AllByRecursion (λ row. fold_of plus emissions row.0 everywhere ≡ Some row.1) rows
+    → flat_map (λ row. row_text store row.0 (signed_decimal row.1)) rows
+    ≡ flat_map (λ key. row_text store key (fold_text signed_decimal (fold_of plus emissions key everywhere))) (keys_of rows)
+rows_by_keys store emissions [] are = refl
+rows_by_keys store emissions (row ∷ rows) are = rw (are.0, rows_by_keys store emissions rows are.1) refl
+
+each_row : (emissions : List (Emission ℤ)) (totals : Totals) → AreTotals emissions totals → (rows : List (List ℕ × ℤ)) → AllByRecursion (λ row. get by_bytes totals row.0 ≡ Some row.1) rows
+    → AllByRecursion (λ row. fold_of plus emissions row.0 everywhere ≡ Some row.1) rows
+each_row emissions totals are [] found = tt
+each_row emissions totals are (row ∷ rows) found = (sym (are.each row.0) ∙ found.0, each_row emissions totals are rows found.1)
+
+-- the rows of the totals are the report
+pub rows_are_report : (store : List ℕ) (emissions : List (Emission ℤ)) (totals : Totals) → AreTotals emissions totals
+    → rows_of store totals ≡ store_report plus signed_decimal store emissions
+rows_are_report store emissions totals are =
+    rows_by_keys store emissions totals.entries (each_row emissions totals are totals.entries (recursion_from_All (λ row. get by_bytes totals row.0 ≡ Some row.1) totals.entries (All-found nat_list_cmp_total totals are.ordered)))
+    ∙ ap (flat_map (λ key. row_text store key (fold_text signed_decimal (fold_of plus emissions key everywhere)))) are.rising

@@ -1,5 +1,6 @@
 -- What a call of the program promises.
-use Rattle.std.specs.Prelude.{◌≡◌, ◌⊎◌, ℕ, codes, List, map, Option, string_bytes}
+use Rattle.std.specs.Prelude.{◌≡◌, ◌⊎◌, ℕ, codes, List, map, Option, Some, None, string_bytes}
+use Rattle.std.specs.Borrow.{Bor}
 use Rattle.std.specs.declared.string.String.{String}
 use Rattle.std.specs.declared.alloc.Global.{Global}
 use Rattle.sb_io.specs.Faults.{Rose}
@@ -20,10 +21,15 @@ NamesFault (batch program log) faults_before faults_now before now =
     (Rose (faults_before program) (faults_now program) × Appends (shelf_answer (codes "program")).bytes before now)
     ⊎ (Rose (faults_before log) (faults_now log) × Appends (shelf_answer (codes "log")).bytes before now)
 
--- the statuses, and at a refusal of the words, the program or the log its line
-abbrev pub Refuses : ℕ → Option (List ℕ) → Option (List ℕ) → Type 0
-Refuses status before now =
+-- The statuses. At a refusal of the words, the program or the log its line is written; the words are refused only where they are no command.
+abbrev pub Refuses : Command → ℕ → Option (List ℕ) → Option (List ℕ) → Type 0
+Refuses command status before now =
     (status ≡ 0) ⊎ (status ≡ 3) ⊎ (status ≡ 4) ⊎ (status ≡ 5)
-    ⊎ ((status ≡ 2) × Appends usage_answer.bytes before now)
+    ⊎ ((status ≡ 2) × (command ≡ usage) × Appends usage_answer.bytes before now)
     ⊎ ((status ≡ 6) × Appends program_answer.bytes before now)
     ⊎ ((status ≡ 7) × Appends log_answer.bytes before now)
+
+-- the names of a command's files
+abbrev pub Names : Option (Bor (List ℕ) × Bor (List ℕ)) → Command → Type 0
+Names None command = command ≡ usage
+Names (Some names) command = command ≡ batch names.0.now names.1.now

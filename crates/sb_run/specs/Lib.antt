@@ -1,10 +1,12 @@
 pub mod Answer
 pub mod Call
 pub mod Fold
+pub mod Gathering
 pub mod Log
 pub mod Program
 pub mod Report
 pub mod Schema
+pub mod Sending
 pub mod Totals
 pub mod Value
 pub mod Views

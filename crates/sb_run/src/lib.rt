@@ -1,7 +1,13 @@
 //! The commands: from words, files and a sink to the bytes that are written and the status.
 #![tactic(auto)]
 
+mod batch;
 mod emission;
 mod log;
 mod program;
+mod refusal;
+mod report;
+mod top;
 mod totals;
+
+pub use top::summingbird;

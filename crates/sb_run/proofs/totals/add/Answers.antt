@@ -14,4 +14,4 @@ returns c =
     let kept : to_z w64 (of_z w64 c.sum_with-sum.result) ≡ c.sum_with-sum.result = to_z-of_z sum_fits in
     adds_one (emission_view c.args.emission) c.args.totals.now c.insert.new.self (to_z w64 (of_z w64 c.sum_with-sum.result))
     (ap Some kept ∙ (sum ∙ ap (λ before. both_sums plus before (Some c.args.emission.value)) c.get.ensures.value))
-    c.in_ok-insert.ensures.updates c.in_ok-insert.ensures.entries
+    c.in_ok-insert.ensures.updates c.in_ok-insert.ensures.entries c.insert.ensures.ordered
