@@ -11,7 +11,7 @@ mod text;
 
 pub use columns::Columns;
 pub use decimal::{read_i64, read_u64, write_i64, write_u64};
-pub use escaping::escape;
-pub use fields::field_unescape;
+pub use escaping::{escape, unescape};
+pub use fields::{field_escape, field_unescape};
 pub use lines::{Line, Lines};
 pub use text::{NoMemory, Text};
