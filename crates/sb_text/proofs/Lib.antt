@@ -1,6 +1,9 @@
 pub mod Decimals
 pub mod EscapedForms
 pub mod FieldForms
+pub mod RangeReads
+pub mod RangeTexts
+pub mod Sets
 pub mod Spellings
 pub mod Splits
 pub mod Utf8

@@ -43,7 +43,8 @@ pub fn write_i64(_alloc: Global, out: &mut Vec<u8>, number: i64) -> Result<(), N
     out.extend_from_slice(buffer.format(number).as_bytes())
 }
 
-fn read_natural(bytes: &[u8], most: u64) -> Option<u64>
+// The number up to `most` that the bytes spell as a canonical decimal.
+pub(crate) fn read_natural(bytes: &[u8], most: u64) -> Option<u64>
     ensures value { result ≡ natural most bytes.now }
     ensures bound { IfSome result (λ number. number ≤ most) }
 {

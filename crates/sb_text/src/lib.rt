@@ -6,6 +6,7 @@ mod decimal;
 mod escaping;
 mod fields;
 mod lines;
+mod ranges;
 mod splitting;
 mod text;
 
@@ -14,4 +15,5 @@ pub use decimal::{read_i64, read_u64, write_i64, write_u64};
 pub use escaping::{escape, unescape};
 pub use fields::{field_escape, field_unescape};
 pub use lines::{Line, Lines};
+pub use ranges::Ranges;
 pub use text::{NoMemory, Text};
