@@ -1,3 +1,11 @@
-pub mod Splits
-pub mod FieldTexts
+pub mod Decimals
+pub mod EscapedForms
 pub mod EscapedTexts
+pub mod FieldForms
+pub mod FieldTexts
+pub mod RangeReads
+pub mod RangeTexts
+pub mod Sets
+pub mod Spellings
+pub mod Splits
+pub mod Utf8

@@ -1,6 +1,8 @@
 -- The escaped form of a text in reports, scripts and transcripts.
-use Rattle.std.specs.Prelude.{ℕ, ◌+◌, ◌/◌, ◌%◌, Bool, ◌&&◌, ◌||◌, ◌==◌, nat_lt, nat_le, not, List, [], ◌∷◌, if◌then◌else◌}
+use Rattle.std.specs.Prelude.{ℕ, ◌+◌, ◌-◌, ◌*◌, ◌/◌, ◌%◌, Bool, ◌&&◌, ◌||◌, ◌==◌, nat_lt, nat_le, not, List, [], ◌∷◌, Option, Some, None, option_and_then, if◌then◌else◌}
+use Rattle.std.specs.Char.{is_ascii_digit}
 use Rattle.std.specs.List.{flat_map}
+use Rattle.sb_text.specs.Field.{onto_text}
 
 -- an upper-case hexadecimal digit
 abbrev pub hex_digit : ℕ → ℕ
@@ -19,3 +21,32 @@ escaped_byte b = if is_plain b then b ∷ [] else 37 ∷ hex_digit (b / 16) ∷ 
 abbrev pub escaped : List ℕ → List ℕ
 escaped [] = 37 ∷ []
 escaped (b ∷ bytes) = flat_map escaped_byte (b ∷ bytes)
+
+-- the value of an upper-case hexadecimal digit
+abbrev pub hex_value : ℕ → Option ℕ
+hex_value c = if is_ascii_digit c then Some (c - 48) else (if nat_le 65 c && nat_le c 70 then Some (c - 55) else None)
+
+-- the byte of these two hexadecimal digits, where it is no plain one
+abbrev pub byte_of_digits : ℕ → ℕ → Option ℕ
+byte_of_digits high low = if is_plain (16 * high + low) then None else Some (16 * high + low)
+
+-- the byte that % and these two characters stand for
+abbrev pub after_percent : ℕ → ℕ → Option ℕ
+after_percent high low = option_and_then (λ h. option_and_then (λ l. byte_of_digits h l) (hex_value low)) (hex_value high)
+
+-- the bytes that one or more escaped bytes spell; none where a byte that isn't plain begins no escape
+abbrev mutual
+  pub bytes_unescaped : List ℕ → Option (List ℕ)
+  bytes_unescaped [] = Some []
+  bytes_unescaped (b ∷ bytes) = if b == 37 then rest_unescaped bytes else (if is_plain b then onto_text (Some b) (bytes_unescaped bytes) else None)
+
+  pub rest_unescaped : List ℕ → Option (List ℕ)
+  rest_unescaped [] = None
+  rest_unescaped (high ∷ []) = None
+  rest_unescaped (high ∷ low ∷ bytes) = onto_text (after_percent high low) (bytes_unescaped bytes)
+
+-- the bytes that an escaped form spells, which is % alone for the empty text
+abbrev pub unescaped : List ℕ → Option (List ℕ)
+unescaped [] = None
+unescaped (b ∷ []) = if b == 37 then Some [] else bytes_unescaped (b ∷ [])
+unescaped (b ∷ c ∷ bytes) = bytes_unescaped (b ∷ c ∷ bytes)

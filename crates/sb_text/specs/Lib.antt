@@ -3,3 +3,5 @@ pub mod Decimal
 pub mod Escape
 pub mod Field
 pub mod Lines
+pub mod Ranges
+pub mod RangesRead

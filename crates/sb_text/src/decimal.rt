@@ -1,4 +1,5 @@
-ghost use Rattle.std.specs.Prelude.{◌≡◌, ◌-◌, ◌^◌, ◌≤◌, ◌++◌, pos, OnOk, OnErr, IfSome, decimal, option_map, option_and_then};
+ghost use Rattle.std.specs.Prelude.{◌≡◌, ℕ, ℤ, ◌-◌, ◌^◌, ◌<◌, ◌≤◌, ◌++◌, pos, Some, OnOk, OnErr, IfSome, FitsSigned, decimal, option_map, option_and_then};
+ghost use Rattle.std.specs.Int.{w64};
 ghost use Rattle.std.specs.Fmt.{signed_decimal};
 ghost use Rattle.sb_text.specs.Decimal.{natural, number_after, integer, negative};
 
@@ -9,6 +10,8 @@ use std::alloc::Global;
 /// The number that the bytes spell as a canonical decimal.
 pub fn read_u64(bytes: &[u8]) -> Option<u64>
     ensures value { result ≡ natural (2 ^ 64 - 1) bytes.now }
+    ensures spelled { IfSome result (λ n. bytes.now ≡ decimal n) }
+    ensures every { (n : ℕ) → n < 2 ^ 64 → bytes.now ≡ decimal n → result ≡ Some n }
 {
     read_natural(bytes, u64::MAX)
 }
@@ -16,11 +19,10 @@ pub fn read_u64(bytes: &[u8]) -> Option<u64>
 /// The number that the bytes spell as a canonical decimal, with `-` before a number below 0.
 pub fn read_i64(bytes: &[u8]) -> Option<i64>
     ensures value { result ≡ integer bytes.now }
+    ensures spelled { IfSome result (λ n. bytes.now ≡ signed_decimal n) }
+    ensures every { (n : ℤ) → FitsSigned w64 n → bytes.now ≡ signed_decimal n → result ≡ Some n }
 {
-    match bytes {
-        [b'-', digits @ ..] => negative_of(read_natural(digits, 1 << 63)?),
-        _ => read_positive(bytes),
-    }
+    read_integer(bytes)
 }
 
 /// Writes the number's canonical decimal at the end of `out`.
@@ -41,7 +43,8 @@ pub fn write_i64(_alloc: Global, out: &mut Vec<u8>, number: i64) -> Result<(), N
     out.extend_from_slice(buffer.format(number).as_bytes())
 }
 
-fn read_natural(bytes: &[u8], most: u64) -> Option<u64>
+// The number up to `most` that the bytes spell as a canonical decimal.
+pub(crate) fn read_natural(bytes: &[u8], most: u64) -> Option<u64>
     ensures value { result ≡ natural most bytes.now }
     ensures bound { IfSome result (λ number. number ≤ most) }
 {
@@ -69,6 +72,15 @@ fn read_digits(digits: &[u8], most: u64) -> Option<u64>
         number = next as u64;
     }
     Some(number)
+}
+
+fn read_integer(bytes: &[u8]) -> Option<i64>
+    ensures { result ≡ integer bytes.now }
+{
+    match bytes {
+        [b'-', digits @ ..] => negative_of(read_natural(digits, 1 << 63)?),
+        _ => read_positive(bytes),
+    }
 }
 
 fn read_positive(digits: &[u8]) -> Option<i64>

@@ -1,7 +1,8 @@
-ghost use Rattle.std.specs.Prelude.{◌≡◌, ◌<◌, ◌++◌, OnOk, OnErr, length, take};
-ghost use Rattle.sb_text.specs.Escape.{is_plain, hex_digit, escaped_byte, escaped};
+ghost use Rattle.std.specs.Prelude.{◌≡◌, ℕ, ◌<◌, List, ◌++◌, Some, None, IsUtf8, OnOk, OnErr, IfOk, IfSome, IfNone, MatchOption, length, take, option_map};
+ghost use Rattle.sb_text.specs.Escape.{is_plain, hex_digit, escaped_byte, escaped, hex_value, byte_of_digits, after_percent, bytes_unescaped, unescaped};
+ghost use Rattle.sb_text.specs.Field.{onto_text};
 
-use crate::NoMemory;
+use crate::{NoMemory, Text};
 use std::alloc::Global;
 
 /// Writes the escaped form of a text at the end of `out`: a form of printable bytes without blanks, brackets and
@@ -17,6 +18,73 @@ pub fn escape(_alloc: Global, out: &mut Vec<u8>, bytes: &[u8]) -> Result<(), NoM
             out.truncate(before);
             Err(e)
         }
+    }
+}
+
+/// The text that an escaped form spells; `None` exactly where the bytes are no text's escaped form.
+pub fn unescape(alloc: Global, bytes: &[u8]) -> Result<Option<Text>, NoMemory>
+    ensures spelled { IfOk result (λ text. IfSome text (λ t. IsUtf8 t × (bytes.now ≡ escaped t))) }
+    ensures every { IfOk result (λ text. (t : List ℕ) → IsUtf8 t → bytes.now ≡ escaped t → text ≡ Some t) }
+{
+    match unescape_bytes(alloc, bytes)? {
+        Some(text) => Ok(Text::from_bytes(text)),
+        None => Ok(None),
+    }
+}
+
+fn unescape_bytes(alloc: Global, bytes: &[u8]) -> Result<Option<Vec<u8>>, NoMemory>
+    ensures { IfOk result (λ text. option_map (λ t. t.items) text ≡ unescaped bytes.now) }
+{
+    match bytes {
+        [] => Ok(None),
+        [b'%'] => Ok(Some(Vec::new(alloc))),
+        _ => unescape_several(alloc, bytes),
+    }
+}
+
+fn unescape_several(alloc: Global, bytes: &[u8]) -> Result<Option<Vec<u8>>, NoMemory>
+    ensures { IfOk result (λ text. option_map (λ t. t.items) text ≡ bytes_unescaped bytes.now) }
+{
+    let mut text = Vec::with_capacity(alloc, bytes.len())?;
+    let mut left = bytes;
+    while !left.is_empty() {
+        let Some((byte, rest)) = unescape_first(left) else {
+            return Ok(None);
+        };
+        text.push(byte)?;
+        left = rest;
+    }
+    Ok(Some(text))
+}
+
+// The byte that the front of an escaped form spells, and what follows it.
+fn unescape_first(bytes: &[u8]) -> Option<(u8, &[u8])>
+    requires { 0 < length bytes.now }
+    ensures value { MatchOption result (bytes_unescaped bytes.now ≡ None) (λ first. bytes_unescaped bytes.now ≡ onto_text (Some first.0) (bytes_unescaped first.1.now)) }
+    ensures shorter { IfSome result (λ first. length first.1.now < length bytes.now) }
+{
+    match bytes {
+        [b'%', high, low, rest @ ..] => Some((meant_after_percent(*high, *low)?, rest)),
+        [byte, rest @ ..] if is_plain_byte(*byte) => Some((*byte, rest)),
+        _ => None,
+    }
+}
+
+fn meant_after_percent(high: u8, low: u8) -> Option<u8>
+    ensures { result ≡ after_percent high low }
+{
+    let byte = 16 * value_of_hex(high)? + value_of_hex(low)?;
+    if is_plain_byte(byte) { None } else { Some(byte) }
+}
+
+fn value_of_hex(digit: u8) -> Option<u8>
+    ensures value { result ≡ hex_value digit }
+    ensures bound { IfSome result (λ n. n < 16) }
+{
+    match digit {
+        b'0'..=b'9' => Some(digit - b'0'),
+        b'A'..=b'F' => Some(digit - b'A' + 10),
+        _ => None,
     }
 }
 
