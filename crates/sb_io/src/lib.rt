@@ -11,5 +11,5 @@ pub use shelf::{Fetched, Shelf, ShelfError};
 pub use sink::{Sink, SinkError};
 pub use system::{FsShelf, StdSink};
 
-
-
+#[cfg(test)]
+mod tests;

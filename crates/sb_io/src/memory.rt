@@ -112,12 +112,7 @@ impl Shelf for MemShelf {
 
     ghost faults = { shelf_faults };
 
-    fn fetch(
-        &mut self,
-        alloc: Global,
-        name: &str,
-        limit: u64,
-    ) -> Result<Fetched, ShelfError> {
+    fn fetch(&mut self, alloc: Global, name: &str, limit: u64) -> Result<Fetched, ShelfError> {
         self.calls = self.calls.saturating_add(1);
         if is_due_now(&self.failing, self.calls) {
             return Err(note(alloc, &mut self.failed, name.as_bytes()));

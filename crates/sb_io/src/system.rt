@@ -71,12 +71,7 @@ impl<'r, R: Files + AllocGlobal> Shelf for FsShelf<'r, R> {
 
     ghost faults = { failed_fetches };
 
-    fn fetch(
-        &mut self,
-        alloc: Global,
-        name: &str,
-        limit: u64,
-    ) -> Result<Fetched, ShelfError> {
+    fn fetch(&mut self, alloc: Global, name: &str, limit: u64) -> Result<Fetched, ShelfError> {
         let end = match fs::open(self.rt, name) {
             Ok(mut file) => read_up_to(alloc, &mut file, limit),
             Err(_) => ReadEnd::Failed,
@@ -114,7 +109,11 @@ impl<W: Write> Sink for StdSink<W> {
     ghost faults = { λ sink. sink.faults };
 
     fn put(&mut self, bytes: &[u8]) -> Result<(), SinkError> {
-        match self.writer.write_all(bytes).and_then(|()| self.writer.flush()) {
+        match self
+            .writer
+            .write_all(bytes)
+            .and_then(|()| self.writer.flush())
+        {
             Ok(()) => Ok(()),
             Err(_) => {
                 self.faults = self.faults.saturating_add(1);

@@ -16,6 +16,7 @@ use sb_text::{NoMemory, Text};
 use std::alloc::Global;
 
 const PROGRAM_LIMIT: u64 = 65_536;
+
 const LOG_LIMIT: u64 = 67_108_864;
 
 /// The sums of a store.
@@ -62,11 +63,7 @@ fn sum_store<H: Shelf>(
     }
 }
 
-fn fetch_program<H: Shelf>(
-    alloc: Global,
-    shelf: &mut H,
-    name: &str,
-) -> Result<Program, Refusal>
+fn fetch_program<H: Shelf>(alloc: Global, shelf: &mut H, name: &str) -> Result<Program, Refusal>
     ensures read { ReadsProgram (H.content shelf.old name.now) result }
     ensures length { IfOk result (λ program. 0 < program.length) }
     ensures frame { Fetches name.now (H.content shelf.old) (H.content shelf.new) (H.faults shelf.old) (H.faults shelf.new) }

@@ -38,7 +38,9 @@ fn emission_of(alloc: Global, program: &Program, logged: LogRecord) -> Result<Em
     ensures { IfOk result (λ emission. emission_view emission ≡ emission_of (program_view program.now) (record_view logged)) }
 {
     let LogRecord {
-        position, fields, ..
+        position,
+        fields,
+        ..
     } = logged;
     let value = number_at(&fields, program.value);
     let key = value_text(alloc, take_field(fields, program.key))?;

@@ -11,3 +11,6 @@ mod top;
 mod totals;
 
 pub use top::summingbird;
+
+#[cfg(test)]
+mod tests;

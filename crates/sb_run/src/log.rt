@@ -11,7 +11,9 @@ use sb_text::{Columns, Line, Lines, NoMemory, Text, field_unescape, read_i64};
 use std::alloc::{AllocError, Global};
 
 const LINE_LIMIT: usize = 16_384;
+
 const BATCH_LIMIT: u64 = 65_535;
+
 const RECORD_LIMIT: usize = 1_048_576;
 
 /// What is wrong with a line of a log, in the order in which it is looked for.

@@ -92,7 +92,8 @@ fn types_of(alloc: Global, fields: &[Field]) -> Result<Vec<FieldType>, NoMemory>
     Ok(types)
 }
 
-const SERVED: &[u8] = b"batch 1000 from 0\nsource s (k: text, v: int)\nstore t = s | map (it.k, it.v) | sumByKey sum\n";
+const SERVED: &[u8] =
+    b"batch 1000 from 0\nsource s (k: text, v: int)\nstore t = s | map (it.k, it.v) | sumByKey sum\n";
 
 /// The program that a text is; `None` where it isn't an accepted one.
 pub fn read_program(alloc: Global, text: &[u8]) -> Result<Option<Program>, NoMemory>
