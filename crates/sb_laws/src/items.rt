@@ -1,5 +1,6 @@
-ghost use Rattle.std.specs.Prelude.{◌≡◌, ◌↔◌, [], length, IsTrue};
+ghost use Rattle.std.specs.Prelude.{◌≡◌, ◌↔◌, [], ◌++◌, length, take, IsTrue, IfOk, OnOk, OnErr};
 
+use crate::{Key, NoMemory};
 use std::alloc::Global;
 use std::marker::Model;
 
@@ -64,5 +65,38 @@ impl<T> Items<T> {
         ensures { IsTrue result ↔ (self.now ≡ []) }
     {
         self.items.is_empty()
+    }
+
+    /// Moves the items of `more` to the end. A refusal leaves the items as they were.
+    pub fn append(&mut self, more: Items<T>) -> Result<(), NoMemory>
+    where
+        T: Drop,
+        ensures ok { OnOk result (self.new ≡ self.old ++ more) }
+        ensures err { OnErr result (self.new ≡ self.old) }
+    {
+        let Items { mut items } = more;
+        self.items.append(&mut items)
+    }
+
+    /// Keeps the first items. No memory is taken.
+    pub fn truncate(&mut self, count: usize)
+    where
+        T: Drop,
+        ensures { self.new ≡ take count self.old }
+    {
+        self.items.truncate(count)
+    }
+}
+
+impl<K: Key> Items<K> {
+    /// A list of equal keys.
+    pub fn copy(&self, alloc: Global) -> Result<Items<K>, NoMemory>
+        ensures { IfOk result (λ items. items ≡ self.now) }
+    {
+        let mut items = Vec::with_capacity(alloc, self.items.len())?;
+        for key in &self.items {
+            items.push(key.copy(alloc)?)?;
+        }
+        Ok(Items { items })
     }
 }

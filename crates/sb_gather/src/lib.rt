@@ -1,0 +1,2 @@
+//! Pairs, sets, maps and tops as dictionaries.
+#![tactic(auto)]
