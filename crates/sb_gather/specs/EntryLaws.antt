@@ -199,3 +199,6 @@ module _ {X : Type 0} (R : X → X → Ordering) (o : IsTotalOrder R) (V : X →
       first : (x : X) (xs : List X) → AllByRecursion (λ y. R x y ≡ Less) xs → add x xs ≡ x ∷ xs
       first x [] h = refl
       first x (y ∷ xs) h = add_less x y xs h.0
+
+pub nothing_keeps : {X : Type 0} (R : X → X → Ordering) (V : X → Type 0) → AreEntries R V []
+nothing_keeps R V = record { rising = tt; valid = tt }

@@ -1,5 +1,6 @@
 pub mod Entries
 pub mod EntryLaws
+pub mod Maps
 pub mod Places
 pub mod Steps
 pub mod Tops

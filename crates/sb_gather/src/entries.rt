@@ -68,7 +68,7 @@ fn add_next<D: Joining>(d: &D, alloc: Global, list: &mut Vec<D::Entry>, steps: &
     requires list { AreEntries (D.Ordered.order d.now) (D.valid d.now) list.old.items }
     requires entry { D.valid d.now entry }
     ensures ok { OnOk result (list.new.items ≡ entry_added (D.Ordered.order d.now) (D.joined d.now) entry list.old.items) }
-    ensures undone { OnOk result ((first : List D.Entry) → StepsBack (D.takes_back d.now) steps.old.items list.old.items first → StepsBack (D.takes_back d.now) steps.new.items list.new.items first) }
+    ensures undone { OnOk result ((first : List D.Entry) → StepsBack (StepBack (D.takes_back d.now)) steps.old.items list.old.items first → StepsBack (StepBack (D.takes_back d.now)) steps.new.items list.new.items first) }
     ensures err { OnErr result ((list.new.items ≡ list.old.items) × (steps.new.items ≡ steps.old.items)) }
 {
     steps.reserve(1)?;
@@ -93,7 +93,7 @@ fn step_back<D: Joining>(d: &D, list: &mut Vec<D::Entry>, step: (usize, Option<D
 
 /// Takes an addition back, from its last step to its first. No memory is taken.
 pub fn take_back<D: Joining>(d: &D, list: &mut Vec<D::Entry>, steps: Steps<D::Undone>)
-    ensures { (earlier : List D.Entry) → StepsBack (D.takes_back d.now) steps.items list.old.items earlier → list.new.items ≡ earlier }
+    ensures { (earlier : List D.Entry) → StepsBack (StepBack (D.takes_back d.now)) steps.items list.old.items earlier → list.new.items ≡ earlier }
 {
     let mut steps = steps;
     while let Some(step) = steps.pop() {
@@ -106,7 +106,7 @@ pub fn add_entries<D: Joining>(d: &D, alloc: Global, list: &mut Vec<D::Entry>, m
     requires list { AreEntries (D.Ordered.order d.now) (D.valid d.now) list.old.items }
     requires more { AllByRecursion (D.valid d.now) more.items }
     ensures ok { OnOk result (list.new.items ≡ entries_added (D.Ordered.order d.now) (D.joined d.now) list.old.items more.items) }
-    ensures undone { IfOk result (λ steps. StepsBack (D.takes_back d.now) steps.items list.new.items list.old.items) }
+    ensures undone { IfOk result (λ steps. StepsBack (StepBack (D.takes_back d.now)) steps.items list.new.items list.old.items) }
     ensures err { OnErr result (list.new.items ≡ list.old.items) }
 {
     let mut steps = Vec::with_capacity(alloc, more.len())?;
@@ -144,7 +144,7 @@ pub fn plus_items<D: Joining>(d: &D, alloc: Global, a: &mut Items<D::Entry>, b: 
     ensures ok { OnOk result (a.new ≡ entries_added (D.Ordered.order d.now) (D.joined d.now) a.old b) }
     ensures err { OnErr result (a.new ≡ a.old) }
 {
-    let mut list = std::mem::replace(a, Items::new(alloc)).into_vec();
+    let mut list = a.take();
     let done = add_all(d, alloc, &mut list, b.into_vec());
     *a = Items::from_vec(list);
     done
@@ -155,20 +155,20 @@ pub fn plus_items_recorded<D: Joining>(d: &D, alloc: Global, a: &mut Items<D::En
     requires left { AreEntries (D.Ordered.order d.now) (D.valid d.now) a.old }
     requires right { AllByRecursion (D.valid d.now) b }
     ensures ok { OnOk result (a.new ≡ entries_added (D.Ordered.order d.now) (D.joined d.now) a.old b) }
-    ensures undone { IfOk result (λ steps. StepsBack (D.takes_back d.now) steps.items a.new a.old) }
+    ensures undone { IfOk result (λ steps. StepsBack (StepBack (D.takes_back d.now)) steps.items a.new a.old) }
     ensures err { OnErr result (a.new ≡ a.old) }
 {
-    let mut list = std::mem::replace(a, Items::new(alloc)).into_vec();
+    let mut list = a.take();
     let done = add_entries(d, alloc, &mut list, b.into_vec());
     *a = Items::from_vec(list);
     done
 }
 
 /// Takes an addition back. No memory is taken.
-pub fn take_items_back<D: Joining>(d: &D, alloc: Global, a: &mut Items<D::Entry>, steps: Steps<D::Undone>)
-    ensures { (earlier : List D.Entry) → StepsBack (D.takes_back d.now) steps.items a.old earlier → a.new ≡ earlier }
+pub fn take_items_back<D: Joining>(d: &D, a: &mut Items<D::Entry>, steps: Steps<D::Undone>)
+    ensures { (earlier : List D.Entry) → StepsBack (StepBack (D.takes_back d.now)) steps.items a.old earlier → a.new ≡ earlier }
 {
-    let mut list = std::mem::replace(a, Items::new(alloc)).into_vec();
+    let mut list = a.take();
     take_back(d, &mut list, steps);
     *a = Items::from_vec(list);
 }

@@ -46,6 +46,15 @@ impl<T> Items<T> {
         items
     }
 
+    /// Takes the items out, in their room, and leaves none. No memory is taken.
+    pub fn take(&mut self) -> Vec<T>
+        ensures items { result.items ≡ self.old }
+        ensures none { self.new ≡ [] }
+    {
+        let alloc = *self.items.allocator();
+        std::mem::replace(&mut self.items, Vec::new(alloc))
+    }
+
     /// The items, lent.
     pub fn as_slice(&self) -> &[T]
         ensures { result.now ≡ self.now }

@@ -151,7 +151,8 @@ fn items_keys_and_undo(rt: HostRuntime) -> Result<(), Fail> {
     items.truncate(2);
     assert_eq!(rt; items.len(), 2);
     assert_eq!(rt; items.as_slice(), [1, 2].as_slice());
-    assert_eq!(rt; items.into_vec().as_slice(), [1, 2].as_slice());
+    assert_eq!(rt; items.take().as_slice(), [1, 2].as_slice());
+    assert_eq!(rt; items.into_vec().len(), 0);
     assert_eq!(rt; Key::copy(&-3_i64, alloc)?, -3);
     let mut keys = Vec::new(alloc);
     keys.push(-3_i64)?;
