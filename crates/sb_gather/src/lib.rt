@@ -3,10 +3,12 @@
 
 mod entries;
 mod map;
+mod pair;
 mod place;
 mod set;
 
 pub use entries::{Joining, Steps, add_entries, add_entry, plus_items, plus_items_recorded, take_back, take_items_back};
 pub use map::{Entries, MapM};
+pub use pair::{Both, PairM};
 pub use place::{Ordered, place_of};
 pub use set::{Keys, SetM};
