@@ -1,2 +1,3 @@
+pub mod Cut
 pub mod Search
 pub mod Undoing

@@ -8,6 +8,7 @@ use Rattle.std.specs.declared.cmp.Ordering.TheVariants.{Less, Equal, Greater}
 use Rattle.std.specs.Cmp.{IsTotalOrder}
 use Rattle.std.specs.FinMap.Entries.{by_order}
 use Rattle.sb_gather.specs.Entries.{IsRising, entry_added}
+use Rattle.sb_gather.specs.Places.{IsHere}
 use Rattle.sb_gather.specs.Tops.{IsRanked, placed}
 use Rattle.sb_gather.specs.EntryLaws.{less_back, greater_back, greater_trans, all_after, equal_back}
 use Rattle.sb_gather.specs.TopLaws.{placed_before, placed_after, first_placed}
@@ -143,3 +144,12 @@ module _ {X : Type 0} (R : X → X → Ordering) (o : IsTotalOrder R) where
     placed_here x (z ∷ xs) (suc at) y h e p =
         placed_after R x z xs (λ q. holds_at (λ w. R w z ≢ Less) xs at y h.0 e (sym (o.congr x y z p) ∙ q))
         ∙ ap (λ l. z ∷ l) (placed_here x xs at y h.1 e p)
+
+element_at : {X : Type 0} (xs : List X) (at : ℕ) → at < length xs → (x : X) × (slice_get xs at ≡ Some x)
+element_at [] at h = absurd (omega (arith, h))
+element_at (x ∷ xs) zero h = (x, refl)
+element_at (x ∷ xs) (suc at) h = element_at xs at (omega (arith, h))
+
+-- the entry that was found
+pub here_of : {X : Type 0} (R : X → X → Ordering) (x : X) (xs : List X) (at : ℕ) → IsHere R x xs at → (y : X) × (slice_get xs at ≡ Some y) × (R x y ≡ Equal)
+here_of R x xs at h = let there = element_at xs at h.0 in (there.0, there.1, h.1 there.0 there.1)

@@ -3,10 +3,14 @@ use Rattle.std.proofs.Common.{◌≡◌, ◌≢◌, ℕ, zero, suc, ◌≤◌, L
 use Rattle.std.specs.List.{AllByRecursion}
 use Rattle.std.specs.declared.cmp.Ordering.{Ordering}
 use Rattle.std.specs.declared.cmp.Ordering.TheVariants.{Less, Equal, Greater}
+use Rattle.std.specs.Ordering.{int_cmp, ordering_then}
 use Rattle.std.specs.Cmp.{IsTotalOrder}
+use Rattle.std.specs.FinMap.{IsAntisymmetric, int_cmp-IsAntisymmetric}
+use Rattle.std.proofs.lemmas.Cmp.{on_total, back_total, then_total, int_cmp_total}
+use lib.IntN.{ℤ}
 use Rattle.std.specs.FinMap.Entries.{by_order}
 use Rattle.sb_gather.specs.EntryLaws.{less_back, greater_back}
-use Rattle.sb_gather.specs.Tops.{IsRanked, placed, together, first_of_both, IsTop}
+use Rattle.sb_gather.specs.Tops.{by_rank, IsRanked, placed, together, first_of_both, IsTop}
 
 by_less : (P : Type 0) (r : Ordering) → (r ≡ Less → P) → (r ≢ Less → P) → P
 by_less P Less so not_so = so refl
@@ -15,6 +19,18 @@ by_less P Greater so not_so = not_so (λ e. cc)
 
 greater_not_less : (r : Ordering) → r ≡ Greater → r ≢ Less
 greater_not_less r p e = cc
+
+module _ {X : Type 0} where
+  pub few_cut : (k : ℕ) (xs : List X) → length (take k xs) ≤ k
+  few_cut zero xs = omega arith
+  few_cut (suc k) [] = omega arith
+  few_cut (suc k) (x ∷ xs) = omega (arith, few_cut k xs)
+
+  pub uncut : (k : ℕ) (xs : List X) → length xs ≤ k → take k xs ≡ xs
+  uncut zero [] h = refl
+  uncut zero (x ∷ xs) h = absurd (omega (arith, h))
+  uncut (suc k) [] h = refl
+  uncut (suc k) (x ∷ xs) h = ap (λ l. x ∷ l) (uncut k xs (omega (arith, h)))
 
 module _ {X : Type 0} (R : X → X → Ordering) where
   pub placed_before : (x y : X) (ys : List X) → R x y ≡ Less → placed R x (y ∷ ys) ≡ x ∷ y ∷ ys
@@ -149,21 +165,13 @@ module _ {X : Type 0} (R : X → X → Ordering) (o : IsTotalOrder R) (same : (x
   ranked_cut (suc k) [] h = tt
   ranked_cut (suc k) (x ∷ xs) h = (none_before_cut k x xs h.0, ranked_cut k xs h.1)
 
-  pub few_cut : (k : ℕ) (xs : List X) → length (take k xs) ≤ k
-  few_cut zero xs = omega arith
-  few_cut (suc k) [] = omega arith
-  few_cut (suc k) (x ∷ xs) = omega (arith, few_cut k xs)
-
-  pub uncut : (k : ℕ) (xs : List X) → length xs ≤ k → take k xs ≡ xs
-  uncut zero [] h = refl
-  uncut zero (x ∷ xs) h = absurd (omega (arith, h))
-  uncut (suc k) [] h = refl
-  uncut (suc k) (x ∷ xs) h = ap (λ l. x ∷ l) (uncut k xs (omega (arith, h)))
-
   cut_right : (k : ℕ) (xs ys : List X) → IsRanked R xs → IsRanked R ys → take k (together R xs (take k ys)) ≡ take k (together R xs ys)
   cut_right k xs ys p q =
       ap (take k) (together_commutes xs (take k ys) p (ranked_cut k ys q))
       ∙ (cut_left R k ys xs ∙ ap (take k) (together_commutes ys xs q p))
+
+  pub top_placed : (k : ℕ) (x : X) (xs : List X) → IsTop R k xs → IsTop R k (take k (placed R x xs))
+  top_placed k x xs p = record { ranked = ranked_cut k _ (ranked_placed x xs p.ranked); few = few_cut k (placed R x xs) }
 
   pub top_keeps : (k : ℕ) (a b : List X) → IsTop R k a → IsTop R k b → IsTop R k (first_of_both R k a b)
   top_keeps k a b p q = record { ranked = ranked_cut k _ (ranked_together a b p.ranked); few = few_cut k (together R a b) }
@@ -180,5 +188,23 @@ module _ {X : Type 0} (R : X → X → Ordering) (o : IsTotalOrder R) (same : (x
   pub top_of_nothing : (k : ℕ) (a : List X) → IsTop R k a → first_of_both R k [] a ≡ a
   top_of_nothing k a p = ap (take k) (onto_nothing a p.ranked) ∙ uncut k a p.few
 
+  pub top_and_nothing : (k : ℕ) (a : List X) → IsTop R k a → first_of_both R k a [] ≡ a
+  top_and_nothing k a p = uncut k a p.few
+
   pub nothing_is_top : (k : ℕ) → IsTop R k []
   nothing_is_top k = record { ranked = tt; few = omega arith }
+
+module _ {K : Type 0} (R : K → K → Ordering) (o : IsTotalOrder R) where
+  pub by_rank_total : IsTotalOrder (by_rank R)
+  by_rank_total = then_total (back_total (on_total (λ (x : ℤ × K). x.0) int_cmp_total)) (on_total (λ x. x.1) o)
+
+second_tied : (p q : Ordering) → ordering_then p q ≡ Equal → (p ≡ Equal) × (q ≡ Equal)
+second_tied Less q e = absurd cc
+second_tied Equal q e = (refl, e)
+second_tied Greater q e = absurd cc
+
+-- two that tie in rank are equal
+pub by_rank_same : {K : Type 0} (R : K → K → Ordering) → IsAntisymmetric R → IsAntisymmetric (by_rank R)
+by_rank_same R same x y e =
+    let ties = second_tied (int_cmp y.0 x.0) (R x.1 y.1) e in
+    λ i. (sym (int_cmp-IsAntisymmetric y.0 x.0 ties.0) i, same x.1 y.1 ties.1 i)

@@ -6,9 +6,11 @@ mod map;
 mod pair;
 mod place;
 mod set;
+mod top;
 
 pub use entries::{Joining, Steps, add_entries, add_entry, plus_items, plus_items_recorded, take_back, take_items_back};
 pub use map::{Entries, MapM};
 pub use pair::{Both, PairM};
 pub use place::{Ordered, place_of};
 pub use set::{Keys, SetM};
+pub use top::{Scored, TopM};
