@@ -202,3 +202,6 @@ module _ {X : Type 0} (R : X → X → Ordering) (o : IsTotalOrder R) (V : X →
 
 pub nothing_keeps : {X : Type 0} (R : X → X → Ordering) (V : X → Type 0) → AreEntries R V []
 nothing_keeps R V = record { rising = tt; valid = tt }
+
+pub one_alone : {X : Type 0} (R : X → X → Ordering) (V : X → Type 0) (x : X) → V x → AreEntries R V (x ∷ [])
+one_alone R V x p = record { rising = (tt, tt); valid = (p, tt) }

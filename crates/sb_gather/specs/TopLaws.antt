@@ -208,3 +208,6 @@ pub by_rank_same : {K : Type 0} (R : K → K → Ordering) → IsAntisymmetric R
 by_rank_same R same x y e =
     let ties = second_tied (int_cmp y.0 x.0) (R x.1 y.1) e in
     λ i. (sym (int_cmp-IsAntisymmetric y.0 x.0 ties.0) i, same x.1 y.1 ties.1 i)
+
+pub top_of_one : {X : Type 0} (R : X → X → Ordering) (k : ℕ) (x : X) → 1 ≤ k → IsTop R k (x ∷ [])
+top_of_one R k x h = record { ranked = (tt, tt); few = omega (arith, h) }

@@ -14,3 +14,6 @@ pub use pair::{Both, PairM};
 pub use place::{Ordered, place_of};
 pub use set::{Keys, SetM};
 pub use top::{Scored, TopM};
+
+#[cfg(test)]
+mod tests;
