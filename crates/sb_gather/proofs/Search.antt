@@ -13,7 +13,7 @@ use Rattle.sb_gather.specs.Tops.{IsRanked, placed}
 use Rattle.sb_gather.specs.EntryLaws.{less_back, greater_back, greater_trans, all_after, equal_back}
 use Rattle.sb_gather.specs.TopLaws.{placed_before, placed_after, first_placed}
 
-same_some : {A : Type 0} (x y : A) → Some x ≡ Some y → x ≡ y
+pub same_some : {A : Type 0} (x y : A) → Some x ≡ Some y → x ≡ y
 same_some x y e = ap (λ o. unwrap_or o x) e
 
 -- what holds of all holds of the one at a place
@@ -58,7 +58,7 @@ module _ {X : Type 0} (R : X → X → Ordering) (o : IsTotalOrder R) where
   not_greater x y p q = absurd (q (greater_back R o x y p))
 
   -- x is after y, and z isn't after y: x is after z
-  above : (x y z : X) → R x y ≡ Greater → R y z ≢ Less → R x z ≡ Greater
+  pub above : (x y z : X) → R x y ≡ Greater → R y z ≢ Less → R x z ≡ Greater
   above x y z p q = elim (R y z) as (λ r. R y z ≡ r → R x z ≡ Greater) [
     | Less ↦ λ e. absurd (q e)
     | Equal ↦ λ e. less_back R o z x (o.congr z y x (equal_back R o y z e) ∙ greater_back R o x y p)

@@ -1,6 +1,7 @@
 pub mod Entries
 pub mod EntryLaws
 pub mod Maps
+pub mod Merges
 pub mod Places
 pub mod Steps
 pub mod Tops

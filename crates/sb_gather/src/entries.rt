@@ -6,6 +6,7 @@ ghost use Rattle.sb_gather.specs.Entries.{IsRising, AreEntries, entry_added, ent
 ghost use Rattle.sb_gather.specs.EntryLaws.{JoinLaws};
 ghost use Rattle.sb_gather.specs.Steps.{StepBack, StepsBack};
 
+use crate::merging::merge_entries;
 use crate::place::{Ordered, place_of};
 use sb_laws::{Items, NoMemory};
 use std::alloc::Global;
@@ -119,15 +120,32 @@ pub fn add_entries<D: Joining>(d: &D, alloc: Global, list: &mut Vec<D::Entry>, m
     Ok(steps)
 }
 
-/// Adds the entries of `more`, each in its place. A single one takes no memory but its own room.
+// From this many entries on, one merge of both lists is cheaper than a search and a move for each.
+const MANY: usize = 8;
+
+// Adds the entries of `more`, by the cheaper way, and says how to take them back.
+fn add_recorded<D: Joining>(d: &D, alloc: Global, list: &mut Vec<D::Entry>, more: Vec<D::Entry>) -> Result<Steps<D::Undone>, NoMemory>
+    requires list { AreEntries (D.Ordered.order d.now) (D.valid d.now) list.old.items }
+    requires more { AreEntries (D.Ordered.order d.now) (D.valid d.now) more.items }
+    ensures ok { OnOk result (list.new.items ≡ entries_added (D.Ordered.order d.now) (D.joined d.now) list.old.items more.items) }
+    ensures undone { IfOk result (λ steps. StepsBack (StepBack (D.takes_back d.now)) steps.items list.new.items list.old.items) }
+    ensures err { OnErr result (list.new.items ≡ list.old.items) }
+{
+    if more.len() < MANY {
+        return add_entries(d, alloc, list, more);
+    }
+    merge_entries(d, alloc, list, more)
+}
+
+// Adds the entries of `more`. A single one takes no memory but its own room.
 fn add_all<D: Joining>(d: &D, alloc: Global, list: &mut Vec<D::Entry>, more: Vec<D::Entry>) -> Result<(), NoMemory>
     requires list { AreEntries (D.Ordered.order d.now) (D.valid d.now) list.old.items }
-    requires more { AllByRecursion (D.valid d.now) more.items }
+    requires more { AreEntries (D.Ordered.order d.now) (D.valid d.now) more.items }
     ensures ok { OnOk result (list.new.items ≡ entries_added (D.Ordered.order d.now) (D.joined d.now) list.old.items more.items) }
     ensures err { OnErr result (list.new.items ≡ list.old.items) }
 {
     if more.len() > 1 {
-        let _ = add_entries(d, alloc, list, more)?;
+        let _ = add_recorded(d, alloc, list, more)?;
         return Ok(());
     }
     let mut more = more;
@@ -140,7 +158,7 @@ fn add_all<D: Joining>(d: &D, alloc: Global, list: &mut Vec<D::Entry>, more: Vec
 /// Adds the entries of `b` to those of `a`, in the room of `a`. A refusal leaves `a` as it was.
 pub fn plus_items<D: Joining>(d: &D, alloc: Global, a: &mut Items<D::Entry>, b: Items<D::Entry>) -> Result<(), NoMemory>
     requires left { AreEntries (D.Ordered.order d.now) (D.valid d.now) a.old }
-    requires right { AllByRecursion (D.valid d.now) b }
+    requires right { AreEntries (D.Ordered.order d.now) (D.valid d.now) b }
     ensures ok { OnOk result (a.new ≡ entries_added (D.Ordered.order d.now) (D.joined d.now) a.old b) }
     ensures err { OnErr result (a.new ≡ a.old) }
 {
@@ -153,13 +171,13 @@ pub fn plus_items<D: Joining>(d: &D, alloc: Global, a: &mut Items<D::Entry>, b: 
 /// Does what `plus_items` does, and says how to take it back.
 pub fn plus_items_recorded<D: Joining>(d: &D, alloc: Global, a: &mut Items<D::Entry>, b: Items<D::Entry>) -> Result<Steps<D::Undone>, NoMemory>
     requires left { AreEntries (D.Ordered.order d.now) (D.valid d.now) a.old }
-    requires right { AllByRecursion (D.valid d.now) b }
+    requires right { AreEntries (D.Ordered.order d.now) (D.valid d.now) b }
     ensures ok { OnOk result (a.new ≡ entries_added (D.Ordered.order d.now) (D.joined d.now) a.old b) }
     ensures undone { IfOk result (λ steps. StepsBack (StepBack (D.takes_back d.now)) steps.items a.new a.old) }
     ensures err { OnErr result (a.new ≡ a.old) }
 {
     let mut list = a.take();
-    let done = add_entries(d, alloc, &mut list, b.into_vec());
+    let done = add_recorded(d, alloc, &mut list, b.into_vec());
     *a = Items::from_vec(list);
     done
 }

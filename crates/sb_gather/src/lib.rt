@@ -3,6 +3,7 @@
 
 mod entries;
 mod map;
+mod merging;
 mod pair;
 mod place;
 mod set;
