@@ -1,6 +1,5 @@
 -- One entry merged into a ring.
-use Rattle.std.proofs.Common.{◌≡◌, ◌≢◌, ℕ, zero, suc, ◌+◌, ◌-◌, ◌<◌, ◌≤◌, Bool, true, false, List, [], ◌∷◌, ◌++◌, length, take, drop, Option, Some, None, refl, sym, ap, subst, ◌∙◌, arith, append_assoc, append-nil}
-use Rattle.std.proofs.lemmas.List.{length-append}
+use Rattle.std.proofs.Common.{◌≡◌, ◌≢◌, ℕ, zero, suc, ◌-◌, ◌<◌, ◌≤◌, true, false, List, [], ◌∷◌, ◌++◌, length, take, drop, Some, None, refl, sym, ap, subst, ◌∙◌, arith, append_assoc}
 use Rattle.std.proofs.Math.Seq.{take-append_seam, drop-append_seam}
 use Rattle.std.specs.Prelude.{slice_get, slice_set, remove}
 use Rattle.std.specs.List.{AllByRecursion}
@@ -131,9 +130,10 @@ module _ {X : Type 0} (R : X → X → Ordering) (join : X → X → X) where
 module _ {X U : Type 0} (T : U → X → X → Type 0) where
   pub push_back_step : (left : ℕ) (xs : List X) (x : X) (at : ℕ) → left ≤ length xs → at ≡ length (drop left xs) → StepBack T (at, None) (turned left (xs ++ x ∷ [])) (turned left xs)
   push_back_step left xs x at a e =
-      let list = sym (push_last left xs x a) in
-      (subst (λ n. n < length (turned left (xs ++ x ∷ []))) (sym e) (subst (λ l. length (drop left xs) < length l) list (seam_within (drop left xs) x (take left xs))),
-      subst (λ n. remove (turned left (xs ++ x ∷ [])) n ≡ turned left xs) (sym e) (subst (λ l. remove l (length (drop left xs)) ≡ turned left xs) list (remove_seam (drop left xs) x (take left xs))))
+      let list = sym (push_last left xs x a) in (
+        subst (λ n. n < length (turned left (xs ++ x ∷ []))) (sym e) (subst (λ l. length (drop left xs) < length l) list (seam_within (drop left xs) x (take left xs))),
+        subst (λ n. remove (turned left (xs ++ x ∷ [])) n ≡ turned left xs) (sym e) (subst (λ l. remove l (length (drop left xs)) ≡ turned left xs) list (remove_seam (drop left xs) x (take left xs))),
+      )
 
   pub join_step : (u : U) (y z : X) (ys : List X) (left : ℕ) (xs : List X) (at : ℕ) → take left xs ≡ y ∷ ys → T u z y → at ≡ length (drop left xs)
       → StepBack T (at, Some u) (turned left (slice_set xs 0 z)) (turned left xs)

@@ -1,5 +1,5 @@
 -- What a search in a list in order finds, and what a change at that place does.
-use Rattle.std.proofs.Common.{◌≡◌, ◌≢◌, ℕ, zero, suc, ◌+◌, ◌<◌, ◌≤◌, List, [], ◌∷◌, length, take, drop, Option, Some, None, refl, sym, ap, subst, ◌∙◌, arith}
+use Rattle.std.proofs.Common.{◌≡◌, ◌≢◌, ℕ, zero, suc, ◌<◌, ◌≤◌, List, [], ◌∷◌, length, take, drop, Some, refl, sym, ap, subst, ◌∙◌, arith}
 use Rattle.std.specs.Prelude.{slice_get, slice_set, slice_index_or, remove}
 use Rattle.std.specs.List.{AllByRecursion, insert}
 use Rattle.std.specs.Option.{unwrap_or}
@@ -10,8 +10,8 @@ use Rattle.std.specs.FinMap.Entries.{by_order}
 use Rattle.sb_gather.specs.Entries.{IsRising, entry_added}
 use Rattle.sb_gather.specs.Places.{IsHere}
 use Rattle.sb_gather.specs.Tops.{IsRanked, placed}
-use Rattle.sb_gather.specs.EntryLaws.{less_back, greater_back, greater_trans, all_after, equal_back}
-use Rattle.sb_gather.specs.TopLaws.{placed_before, placed_after, first_placed}
+use Rattle.sb_gather.specs.EntryLaws.{less_back, greater_back, greater_trans, equal_back}
+use Rattle.sb_gather.specs.TopLaws.{placed_after, first_placed}
 
 pub same_some : {A : Type 0} (x y : A) → Some x ≡ Some y → x ≡ y
 same_some x y e = ap (λ o. unwrap_or o x) e

@@ -1,5 +1,5 @@
 -- Steps taken back from the last to the first.
-use Rattle.std.proofs.Common.{◌≡◌, List, [], ◌∷◌, ◌++◌, refl, sym, subst}
+use Rattle.std.proofs.Common.{List, [], ◌∷◌, ◌++◌, refl, sym, subst}
 use Rattle.sb_gather.specs.Steps.{StepsBack}
 
 module _ {S X : Type 0} (B : S → List X → List X → Type 0) where

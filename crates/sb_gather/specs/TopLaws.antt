@@ -85,10 +85,10 @@ module _ {X : Type 0} (R : X → X → Ordering) (o : IsTotalOrder R) (same : (x
       (λ yz. ap (placed R x) (placed_before R y z zs yz) ∙ (placed_before R x y (z ∷ zs) p
       ∙ (sym (ap (λ l. x ∷ l) (placed_before R y z zs yz)) ∙ (sym (placed_after R y x (z ∷ zs) (not_before x y p)) ∙ sym (ap (placed R y) (placed_before R x z zs (o.trans x y z p yz)))))))
       (λ yz. by_less _ (R x z)
-          (λ xz. ap (placed R x) (placed_after R y z zs yz) ∙ (placed_before R x z (placed R y zs) xz
-          ∙ (sym (ap (λ l. x ∷ l) (placed_after R y z zs yz)) ∙ (sym (placed_after R y x (z ∷ zs) (not_before x y p)) ∙ sym (ap (placed R y) (placed_before R x z zs xz))))))
-          (λ xz. ap (placed R x) (placed_after R y z zs yz) ∙ (placed_after R x z (placed R y zs) xz
-          ∙ (ap (λ l. z ∷ l) (turn_less x y zs p) ∙ (sym (placed_after R y z (placed R x zs) yz) ∙ sym (ap (placed R y) (placed_after R x z zs xz)))))))
+      (λ xz. ap (placed R x) (placed_after R y z zs yz) ∙ (placed_before R x z (placed R y zs) xz
+      ∙ (sym (ap (λ l. x ∷ l) (placed_after R y z zs yz)) ∙ (sym (placed_after R y x (z ∷ zs) (not_before x y p)) ∙ sym (ap (placed R y) (placed_before R x z zs xz))))))
+      (λ xz. ap (placed R x) (placed_after R y z zs yz) ∙ (placed_after R x z (placed R y zs) xz
+      ∙ (ap (λ l. z ∷ l) (turn_less x y zs p) ∙ (sym (placed_after R y z (placed R x zs) yz) ∙ sym (ap (placed R y) (placed_after R x z zs xz)))))))
 
   -- two entries may be placed in either order
   placed_turn : (x y : X) (zs : List X) → placed R x (placed R y zs) ≡ placed R y (placed R x zs)

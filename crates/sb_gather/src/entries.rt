@@ -26,7 +26,12 @@ pub trait Joining: Ordered {
     ghost takes_back: { Self → Self.Undone → Self.Entry → Self.Entry → Type 0 };
 
     /// Joins `b` to `a`, in place. A refusal leaves `a` as it was.
-    fn join(&self, alloc: Global, a: &mut Self::Entry, b: Self::Entry) -> Result<Self::Undone, NoMemory>
+    fn join(
+        &self,
+        alloc: Global,
+        a: &mut Self::Entry,
+        b: Self::Entry,
+    ) -> Result<Self::Undone, NoMemory>
         requires left { valid self.now a.old }
         requires right { valid self.now b }
         ensures ok { OnOk result (a.new ≡ joined self.now a.old b) }
@@ -45,7 +50,12 @@ pub trait Joining: Ordered {
 pub type Steps<U> = Vec<(usize, Option<U>)>;
 
 /// Adds an entry in place: a search, and a join or one move of what stands behind.
-pub fn add_entry<D: Joining>(d: &D, alloc: Global, list: &mut Vec<D::Entry>, entry: D::Entry) -> Result<(usize, Option<D::Undone>), NoMemory>
+pub fn add_entry<D: Joining>(
+    d: &D,
+    alloc: Global,
+    list: &mut Vec<D::Entry>,
+    entry: D::Entry,
+) -> Result<(usize, Option<D::Undone>), NoMemory>
     requires list { AreEntries (D.Ordered.order d.now) (D.valid d.now) list.old.items }
     requires entry { D.valid d.now entry }
     ensures ok { OnOk result (list.new.items ≡ entry_added (D.Ordered.order d.now) (D.joined d.now) entry list.old.items) }
@@ -65,7 +75,13 @@ pub fn add_entry<D: Joining>(d: &D, alloc: Global, list: &mut Vec<D::Entry>, ent
 }
 
 // Adds an entry, and notes the step.
-fn add_next<D: Joining>(d: &D, alloc: Global, list: &mut Vec<D::Entry>, steps: &mut Steps<D::Undone>, entry: D::Entry) -> Result<(), NoMemory>
+fn add_next<D: Joining>(
+    d: &D,
+    alloc: Global,
+    list: &mut Vec<D::Entry>,
+    steps: &mut Steps<D::Undone>,
+    entry: D::Entry,
+) -> Result<(), NoMemory>
     requires list { AreEntries (D.Ordered.order d.now) (D.valid d.now) list.old.items }
     requires entry { D.valid d.now entry }
     ensures ok { OnOk result (list.new.items ≡ entry_added (D.Ordered.order d.now) (D.joined d.now) entry list.old.items) }
@@ -103,7 +119,12 @@ pub fn take_back<D: Joining>(d: &D, list: &mut Vec<D::Entry>, steps: Steps<D::Un
 }
 
 /// Adds the entries of `more`, each in its place, and says how to take them back. A refusal leaves the list as it was.
-pub fn add_entries<D: Joining>(d: &D, alloc: Global, list: &mut Vec<D::Entry>, more: Vec<D::Entry>) -> Result<Steps<D::Undone>, NoMemory>
+pub fn add_entries<D: Joining>(
+    d: &D,
+    alloc: Global,
+    list: &mut Vec<D::Entry>,
+    more: Vec<D::Entry>,
+) -> Result<Steps<D::Undone>, NoMemory>
     requires list { AreEntries (D.Ordered.order d.now) (D.valid d.now) list.old.items }
     requires more { AllByRecursion (D.valid d.now) more.items }
     ensures ok { OnOk result (list.new.items ≡ entries_added (D.Ordered.order d.now) (D.joined d.now) list.old.items more.items) }
@@ -124,7 +145,12 @@ pub fn add_entries<D: Joining>(d: &D, alloc: Global, list: &mut Vec<D::Entry>, m
 const MANY: usize = 8;
 
 // Adds the entries of `more`, by the cheaper way, and says how to take them back.
-fn add_recorded<D: Joining>(d: &D, alloc: Global, list: &mut Vec<D::Entry>, more: Vec<D::Entry>) -> Result<Steps<D::Undone>, NoMemory>
+fn add_recorded<D: Joining>(
+    d: &D,
+    alloc: Global,
+    list: &mut Vec<D::Entry>,
+    more: Vec<D::Entry>,
+) -> Result<Steps<D::Undone>, NoMemory>
     requires list { AreEntries (D.Ordered.order d.now) (D.valid d.now) list.old.items }
     requires more { AreEntries (D.Ordered.order d.now) (D.valid d.now) more.items }
     ensures ok { OnOk result (list.new.items ≡ entries_added (D.Ordered.order d.now) (D.joined d.now) list.old.items more.items) }
@@ -138,7 +164,12 @@ fn add_recorded<D: Joining>(d: &D, alloc: Global, list: &mut Vec<D::Entry>, more
 }
 
 // Adds the entries of `more`. A single one takes no memory but its own room.
-fn add_all<D: Joining>(d: &D, alloc: Global, list: &mut Vec<D::Entry>, more: Vec<D::Entry>) -> Result<(), NoMemory>
+fn add_all<D: Joining>(
+    d: &D,
+    alloc: Global,
+    list: &mut Vec<D::Entry>,
+    more: Vec<D::Entry>,
+) -> Result<(), NoMemory>
     requires list { AreEntries (D.Ordered.order d.now) (D.valid d.now) list.old.items }
     requires more { AreEntries (D.Ordered.order d.now) (D.valid d.now) more.items }
     ensures ok { OnOk result (list.new.items ≡ entries_added (D.Ordered.order d.now) (D.joined d.now) list.old.items more.items) }
@@ -156,7 +187,12 @@ fn add_all<D: Joining>(d: &D, alloc: Global, list: &mut Vec<D::Entry>, more: Vec
 }
 
 /// Adds the entries of `b` to those of `a`, in the room of `a`. A refusal leaves `a` as it was.
-pub fn plus_items<D: Joining>(d: &D, alloc: Global, a: &mut Items<D::Entry>, b: Items<D::Entry>) -> Result<(), NoMemory>
+pub fn plus_items<D: Joining>(
+    d: &D,
+    alloc: Global,
+    a: &mut Items<D::Entry>,
+    b: Items<D::Entry>,
+) -> Result<(), NoMemory>
     requires left { AreEntries (D.Ordered.order d.now) (D.valid d.now) a.old }
     requires right { AreEntries (D.Ordered.order d.now) (D.valid d.now) b }
     ensures ok { OnOk result (a.new ≡ entries_added (D.Ordered.order d.now) (D.joined d.now) a.old b) }
@@ -169,7 +205,12 @@ pub fn plus_items<D: Joining>(d: &D, alloc: Global, a: &mut Items<D::Entry>, b: 
 }
 
 /// Does what `plus_items` does, and says how to take it back.
-pub fn plus_items_recorded<D: Joining>(d: &D, alloc: Global, a: &mut Items<D::Entry>, b: Items<D::Entry>) -> Result<Steps<D::Undone>, NoMemory>
+pub fn plus_items_recorded<D: Joining>(
+    d: &D,
+    alloc: Global,
+    a: &mut Items<D::Entry>,
+    b: Items<D::Entry>,
+) -> Result<Steps<D::Undone>, NoMemory>
     requires left { AreEntries (D.Ordered.order d.now) (D.valid d.now) a.old }
     requires right { AreEntries (D.Ordered.order d.now) (D.valid d.now) b }
     ensures ok { OnOk result (a.new ≡ entries_added (D.Ordered.order d.now) (D.joined d.now) a.old b) }

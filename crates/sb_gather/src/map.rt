@@ -59,7 +59,12 @@ impl<K: Key, M: Undo + Drop> Joining for MapM<K, M> {
 
     ghost laws = { λ m. map_laws K.cmp (M.valid m.part) (M.add m.part) (part_laws (M.valid m.part) (M.add m.part) (M.keeps_valid m.part) (M.associates m.part)) };
 
-    fn join(&self, alloc: Global, a: &mut (K, M::El), b: (K, M::El)) -> Result<M::Record, NoMemory> {
+    fn join(
+        &self,
+        alloc: Global,
+        a: &mut (K, M::El),
+        b: (K, M::El),
+    ) -> Result<M::Record, NoMemory> {
         let (_, value) = b;
         self.part.plus_recorded(alloc, &mut a.1, value)
     }
@@ -83,7 +88,12 @@ impl<K: Key, M: Undo + Drop> Semigroup for MapM<K, M> {
 
     ghost associates = { λ m a b c p q r. map_associates K.cmp K.total (M.valid m.part) (M.add m.part) (M.keeps_valid m.part) (M.associates m.part) a b c p q r };
 
-    fn plus(&self, alloc: Global, a: &mut Entries<K, M::El>, b: Entries<K, M::El>) -> Result<(), NoMemory> {
+    fn plus(
+        &self,
+        alloc: Global,
+        a: &mut Entries<K, M::El>,
+        b: Entries<K, M::El>,
+    ) -> Result<(), NoMemory> {
         plus_items(self, alloc, a, b)
     }
 
@@ -135,7 +145,12 @@ impl<K: Key, M: Undo + Drop> Undo for MapM<K, M> {
 
     ghost takes_back = { λ m steps later earlier. StepsBack (StepBack (ValueBack (M.takes_back m.part))) steps.items later earlier };
 
-    fn plus_recorded(&self, alloc: Global, a: &mut Entries<K, M::El>, b: Entries<K, M::El>) -> Result<Steps<M::Record>, NoMemory> {
+    fn plus_recorded(
+        &self,
+        alloc: Global,
+        a: &mut Entries<K, M::El>,
+        b: Entries<K, M::El>,
+    ) -> Result<Steps<M::Record>, NoMemory> {
         plus_items_recorded(self, alloc, a, b)
     }
 

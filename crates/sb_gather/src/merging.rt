@@ -20,7 +20,12 @@ fn entry_at<T>(ring: &VecDeque<T>, at: usize) -> &T
 }
 
 // How many of the first `left` are before the entry, and whether the next of them ties with it.
-fn count_before<O: Ordered>(order: &O, ring: &VecDeque<O::Entry>, left: usize, entry: &O::Entry) -> (usize, bool)
+fn count_before<O: Ordered>(
+    order: &O,
+    ring: &VecDeque<O::Entry>,
+    left: usize,
+    entry: &O::Entry,
+) -> (usize, bool)
     requires { left ≤ length ring.now.items }
     ensures within { result.0 ≤ left }
     ensures before { IsAfter (O.order order.now) entry.now (take result.0 ring.now.items) }
@@ -37,7 +42,12 @@ fn count_before<O: Ordered>(order: &O, ring: &VecDeque<O::Entry>, left: usize, e
 }
 
 // Lets those pass that are before the entry; says whether the next ties with it.
-fn pass_before<O: Ordered>(order: &O, ring: &mut VecDeque<O::Entry>, left: &mut usize, entry: &O::Entry) -> bool
+fn pass_before<O: Ordered>(
+    order: &O,
+    ring: &mut VecDeque<O::Entry>,
+    left: &mut usize,
+    entry: &O::Entry,
+) -> bool
     requires within { left.old ≤ length ring.old.items }
     requires passed { IsAfter (O.order order.now) entry.now (drop left.old ring.old.items) }
     ensures list { turned left.new ring.new.items ≡ turned left.old ring.old.items }
@@ -52,7 +62,13 @@ fn pass_before<O: Ordered>(order: &O, ring: &mut VecDeque<O::Entry>, left: &mut 
 }
 
 // Merges one entry, which is after all that has passed. What has passed since isn't after it.
-fn merge_one<D: Joining>(d: &D, alloc: Global, ring: &mut VecDeque<D::Entry>, left: &mut usize, entry: D::Entry) -> Result<(usize, Option<D::Undone>), NoMemory>
+fn merge_one<D: Joining>(
+    d: &D,
+    alloc: Global,
+    ring: &mut VecDeque<D::Entry>,
+    left: &mut usize,
+    entry: D::Entry,
+) -> Result<(usize, Option<D::Undone>), NoMemory>
     requires list { AllByRecursion (D.valid d.now) (turned left.old ring.old.items) }
     requires entry { D.valid d.now entry }
     requires within { left.old ≤ length ring.old.items }
@@ -75,7 +91,12 @@ fn merge_one<D: Joining>(d: &D, alloc: Global, ring: &mut VecDeque<D::Entry>, le
 
 /// Adds the entries of `more` by one merge of the two lists, in place where the list has room for both, and says how to take
 /// them back. A refusal leaves the list as it was.
-pub fn merge_entries<D: Joining>(d: &D, alloc: Global, list: &mut Vec<D::Entry>, more: Vec<D::Entry>) -> Result<Steps<D::Undone>, NoMemory>
+pub fn merge_entries<D: Joining>(
+    d: &D,
+    alloc: Global,
+    list: &mut Vec<D::Entry>,
+    more: Vec<D::Entry>,
+) -> Result<Steps<D::Undone>, NoMemory>
     requires list { AreEntries (D.Ordered.order d.now) (D.valid d.now) list.old.items }
     requires more { AreEntries (D.Ordered.order d.now) (D.valid d.now) more.items }
     ensures ok { OnOk result (list.new.items ≡ entries_added (D.Ordered.order d.now) (D.joined d.now) list.old.items more.items) }
@@ -97,7 +118,14 @@ pub fn merge_entries<D: Joining>(d: &D, alloc: Global, list: &mut Vec<D::Entry>,
 }
 
 // Merges entry after entry, and notes the steps. At a refusal the ring is as the steps noted have left it.
-fn merge_all<D: Joining>(d: &D, alloc: Global, ring: &mut VecDeque<D::Entry>, left: &mut usize, steps: &mut Steps<D::Undone>, more: Vec<D::Entry>) -> Result<(), NoMemory>
+fn merge_all<D: Joining>(
+    d: &D,
+    alloc: Global,
+    ring: &mut VecDeque<D::Entry>,
+    left: &mut usize,
+    steps: &mut Steps<D::Undone>,
+    more: Vec<D::Entry>,
+) -> Result<(), NoMemory>
     requires list { AreEntries (D.Ordered.order d.now) (D.valid d.now) (turned left.old ring.old.items) }
     requires more { AreEntries (D.Ordered.order d.now) (D.valid d.now) more.items }
     requires within { left.old ≤ length ring.old.items }
@@ -113,7 +141,14 @@ fn merge_all<D: Joining>(d: &D, alloc: Global, ring: &mut VecDeque<D::Entry>, le
 }
 
 // Merges one entry, and notes the step.
-fn merge_next<D: Joining>(d: &D, alloc: Global, ring: &mut VecDeque<D::Entry>, left: &mut usize, steps: &mut Steps<D::Undone>, entry: D::Entry) -> Result<(), NoMemory>
+fn merge_next<D: Joining>(
+    d: &D,
+    alloc: Global,
+    ring: &mut VecDeque<D::Entry>,
+    left: &mut usize,
+    steps: &mut Steps<D::Undone>,
+    entry: D::Entry,
+) -> Result<(), NoMemory>
     requires list { AllByRecursion (D.valid d.now) (turned left.old ring.old.items) }
     requires entry { D.valid d.now entry }
     requires within { left.old ≤ length ring.old.items }

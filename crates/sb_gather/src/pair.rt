@@ -39,7 +39,12 @@ impl<A: Undo + Drop, B: Semigroup + Drop> Semigroup for PairM<A, B> {
     ghost associates = { λ m a b c p q r i. record { left = A.associates m.left a.left b.left c.left p.0 q.0 r.0 i; right = B.associates m.right a.right b.right c.right p.1 q.1 r.1 i } };
 
     // The left goes first, and is taken back where the right is refused: neither side is copied.
-    fn plus(&self, alloc: Global, a: &mut Both<A::El, B::El>, b: Both<A::El, B::El>) -> Result<(), NoMemory> {
+    fn plus(
+        &self,
+        alloc: Global,
+        a: &mut Both<A::El, B::El>,
+        b: Both<A::El, B::El>,
+    ) -> Result<(), NoMemory> {
         let Both { left, right } = b;
         let record = self.left.plus_recorded(alloc, &mut a.left, left)?;
         if let Err(refused) = self.right.plus(alloc, &mut a.right, right) {
@@ -85,7 +90,12 @@ impl<A: Undo + Drop, B: Undo + Drop> Undo for PairM<A, B> {
 
     ghost takes_back = { λ m both later earlier. A.takes_back m.left both.left later.left earlier.left × B.takes_back m.right both.right later.right earlier.right };
 
-    fn plus_recorded(&self, alloc: Global, a: &mut Both<A::El, B::El>, b: Both<A::El, B::El>) -> Result<Both<A::Record, B::Record>, NoMemory> {
+    fn plus_recorded(
+        &self,
+        alloc: Global,
+        a: &mut Both<A::El, B::El>,
+        b: Both<A::El, B::El>,
+    ) -> Result<Both<A::Record, B::Record>, NoMemory> {
         let Both { left, right } = b;
         let left = self.left.plus_recorded(alloc, &mut a.left, left)?;
         match self.right.plus_recorded(alloc, &mut a.right, right) {

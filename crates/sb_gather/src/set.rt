@@ -121,7 +121,12 @@ impl<K: Key> Undo for SetM<K> {
 
     ghost takes_back = { λ _ steps later earlier. StepsBack (StepBack (λ _ y x. y ≡ x)) steps.items later earlier };
 
-    fn plus_recorded(&self, alloc: Global, a: &mut Keys<K>, b: Keys<K>) -> Result<Steps<()>, NoMemory> {
+    fn plus_recorded(
+        &self,
+        alloc: Global,
+        a: &mut Keys<K>,
+        b: Keys<K>,
+    ) -> Result<Steps<()>, NoMemory> {
         plus_items_recorded(self, alloc, a, b)
     }
 

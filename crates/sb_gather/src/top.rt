@@ -100,7 +100,11 @@ fn room_for_one<T: Drop>(list: &mut Vec<T>, places: usize) -> Result<Option<T>, 
 type TopStep<K> = (usize, Option<(i64, K)>);
 
 // Puts an entry in its place, if it is one of the first; says how to take that back, if anything changed.
-fn put_one<K: Key>(top: &TopM<K>, list: &mut Vec<(i64, K)>, entry: (i64, K)) -> Result<Option<TopStep<K>>, NoMemory>
+fn put_one<K: Key>(
+    top: &TopM<K>,
+    list: &mut Vec<(i64, K)>,
+    entry: (i64, K),
+) -> Result<Option<TopStep<K>>, NoMemory>
     requires { IsTop (by_rank K.cmp) top.now list.old.items }
     ensures ok { OnOk result (list.new.items ≡ take top.now (placed (by_rank K.cmp) entry list.old.items)) }
     ensures undone { IfOk result (λ step. MatchOption step (list.new.items ≡ list.old.items) (λ step. TopStepBack step list.new.items list.old.items)) }
@@ -116,7 +120,12 @@ fn put_one<K: Key>(top: &TopM<K>, list: &mut Vec<(i64, K)>, entry: (i64, K)) -> 
 }
 
 // Puts an entry in its place, and notes the step.
-fn put_next<K: Key>(top: &TopM<K>, list: &mut Vec<(i64, K)>, steps: &mut Steps<(i64, K)>, entry: (i64, K)) -> Result<(), NoMemory>
+fn put_next<K: Key>(
+    top: &TopM<K>,
+    list: &mut Vec<(i64, K)>,
+    steps: &mut Steps<(i64, K)>,
+    entry: (i64, K),
+) -> Result<(), NoMemory>
     requires { IsTop (by_rank K.cmp) top.now list.old.items }
     ensures ok { OnOk result (list.new.items ≡ take top.now (placed (by_rank K.cmp) entry list.old.items)) }
     ensures undone { OnOk result ((first : List (ℤ × K)) → StepsBack TopStepBack steps.old.items list.old.items first → StepsBack TopStepBack steps.new.items list.new.items first) }
@@ -154,7 +163,12 @@ fn take_back<K: Key>(list: &mut Vec<(i64, K)>, steps: Steps<(i64, K)>)
 }
 
 // Puts each entry in its place, and says how to take that back.
-fn put_all<K: Key>(top: &TopM<K>, alloc: Global, list: &mut Vec<(i64, K)>, more: Vec<(i64, K)>) -> Result<Steps<(i64, K)>, NoMemory>
+fn put_all<K: Key>(
+    top: &TopM<K>,
+    alloc: Global,
+    list: &mut Vec<(i64, K)>,
+    more: Vec<(i64, K)>,
+) -> Result<Steps<(i64, K)>, NoMemory>
     requires { IsTop (by_rank K.cmp) top.now list.old.items }
     ensures ok { OnOk result (list.new.items ≡ first_of_both (by_rank K.cmp) top.now list.old.items more.items) }
     ensures undone { IfOk result (λ steps. StepsBack TopStepBack steps.items list.new.items list.old.items) }
@@ -171,7 +185,12 @@ fn put_all<K: Key>(top: &TopM<K>, alloc: Global, list: &mut Vec<(i64, K)>, more:
 }
 
 // Puts each entry in its place. A single one takes no memory but its own room.
-fn put_list<K: Key>(top: &TopM<K>, alloc: Global, list: &mut Vec<(i64, K)>, more: Vec<(i64, K)>) -> Result<(), NoMemory>
+fn put_list<K: Key>(
+    top: &TopM<K>,
+    alloc: Global,
+    list: &mut Vec<(i64, K)>,
+    more: Vec<(i64, K)>,
+) -> Result<(), NoMemory>
     requires { IsTop (by_rank K.cmp) top.now list.old.items }
     ensures ok { OnOk result (list.new.items ≡ first_of_both (by_rank K.cmp) top.now list.old.items more.items) }
     ensures err { OnErr result (list.new.items ≡ list.old.items) }
@@ -187,7 +206,12 @@ fn put_list<K: Key>(top: &TopM<K>, alloc: Global, list: &mut Vec<(i64, K)>, more
     Ok(())
 }
 
-fn put_items_recorded<K: Key>(top: &TopM<K>, alloc: Global, a: &mut Scored<K>, b: Scored<K>) -> Result<Steps<(i64, K)>, NoMemory>
+fn put_items_recorded<K: Key>(
+    top: &TopM<K>,
+    alloc: Global,
+    a: &mut Scored<K>,
+    b: Scored<K>,
+) -> Result<Steps<(i64, K)>, NoMemory>
     requires { IsTop (by_rank K.cmp) top.now a.old }
     ensures ok { OnOk result (a.new ≡ first_of_both (by_rank K.cmp) top.now a.old b) }
     ensures undone { IfOk result (λ steps. StepsBack TopStepBack steps.items a.new a.old) }
@@ -270,7 +294,12 @@ impl<K: Key> Undo for TopM<K> {
 
     ghost takes_back = { λ _ steps later earlier. StepsBack TopStepBack steps.items later earlier };
 
-    fn plus_recorded(&self, alloc: Global, a: &mut Scored<K>, b: Scored<K>) -> Result<Steps<(i64, K)>, NoMemory> {
+    fn plus_recorded(
+        &self,
+        alloc: Global,
+        a: &mut Scored<K>,
+        b: Scored<K>,
+    ) -> Result<Steps<(i64, K)>, NoMemory> {
         put_items_recorded(self, alloc, a, b)
     }
 

@@ -36,6 +36,7 @@ pub returns-in_ok-insert-in-Err-clause-undone : goal.returns-in_ok-insert-in-Err
 returns-in_ok-insert-in-Err-clause-undone g c =
     let xs = c.args.list.now.items in
     let gap = rw c.as_slice.ensures.value at c.in-Err.ensures in
-    let made = sym c.in_ok-insert-in-Err.ensures.items in
-    (subst (λ l. c.in-Err.at < length l) made (inserted_longer xs c.in-Err.at c.args.entry gap.0),
-    subst (λ l. remove l c.in-Err.at ≡ xs) made (remove_inserted xs c.in-Err.at c.args.entry gap.0))
+    let made = sym c.in_ok-insert-in-Err.ensures.items in (
+      subst (λ l. c.in-Err.at < length l) made (inserted_longer xs c.in-Err.at c.args.entry gap.0),
+      subst (λ l. remove l c.in-Err.at ≡ xs) made (remove_inserted xs c.in-Err.at c.args.entry gap.0),
+    )

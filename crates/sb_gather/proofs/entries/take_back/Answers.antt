@@ -1,4 +1,4 @@
-use Rattle.std.proofs.Common.{◌≡◌, ◌++◌, [], ◌∷◌, sym, subst}
+use Rattle.std.proofs.Common.{◌++◌, [], ◌∷◌, sym, subst}
 use Rattle.sb_gather.specs.Steps.{StepBack, StepsBack}
 use Rattle.sb_gather.proofs.Undoing.{last_step}
 use Rattle.sb_gather.proofs.entries.take_back.Goals as goal

@@ -1,9 +1,8 @@
-use Rattle.std.proofs.Common.{◌≡◌, ◌∷◌, drop, ap, sym, subst, ◌∙◌}
-use Rattle.std.specs.List.{AllByRecursion}
+use Rattle.std.proofs.Common.{◌∷◌, drop, ap, sym, subst, ◌∙◌}
 use Rattle.std.specs.Vec.Iter.{into_iter_items}
 use Rattle.sb_gather.specs.Entries.{AreEntries, entries_added}
 use Rattle.sb_gather.specs.EntryLaws.{one_keeps}
-use Rattle.sb_gather.specs.Merges.{turned, IsAfter}
+use Rattle.sb_gather.specs.Merges.{turned}
 use Rattle.sb_gather.proofs.Rings.{all_after_passed}
 use Rattle.sb_gather.proofs.merging.merge_all.Goals as goal
 

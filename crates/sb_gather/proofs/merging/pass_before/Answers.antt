@@ -1,4 +1,4 @@
-use Rattle.std.proofs.Common.{◌≡◌, ◌-◌, ap, sym, subst, take, ◌∙◌}
+use Rattle.std.proofs.Common.{◌-◌, ap, sym, subst, take, ◌∙◌}
 use Rattle.sb_gather.specs.Merges.{turned, IsNext}
 use Rattle.sb_gather.proofs.Rings.{same_list, left_after}
 use Rattle.sb_gather.proofs.merging.pass_before.Goals as goal

@@ -1,4 +1,4 @@
-use Rattle.std.proofs.Common.{◌≡◌, ◌+◌, ◌-◌, ◌/◌, ◌≤◌, length, take, arith, subst, sym, ap, ◌∙◌, add-one}
+use Rattle.std.proofs.Common.{◌≡◌, take, arith, subst, sym, add-one}
 use Rattle.std.specs.List.{AllByRecursion}
 use Rattle.std.specs.declared.cmp.Ordering.TheVariants.{Less, Greater}
 use Rattle.sb_gather.proofs.Search.{all_above, all_below}

@@ -1,4 +1,3 @@
-use Rattle.std.proofs.Common.{◌≡◌}
 use Rattle.sb_gather.specs.Tops.{by_rank}
 use Rattle.sb_gather.specs.TopLaws.{by_rank_total, by_rank_same}
 use Rattle.sb_gather.proofs.Search.{here_of, placed_here, placed_in_gap}

@@ -1,4 +1,4 @@
-use Rattle.std.proofs.Common.{◌≡◌, take, ap, sym, subst, ◌∙◌}
+use Rattle.std.proofs.Common.{ap, sym, subst, ◌∙◌}
 use Rattle.std.specs.Vec.Iter.{into_iter_items}
 use Rattle.sb_gather.specs.Steps.{TopStepBack, StepsBack}
 use Rattle.sb_gather.specs.Tops.{by_rank, placed, first_of_both, IsTop}

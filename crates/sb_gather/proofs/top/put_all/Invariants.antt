@@ -1,4 +1,4 @@
-use Rattle.std.proofs.Common.{◌≡◌, take}
+use Rattle.std.proofs.Common.{◌≡◌}
 use Rattle.std.specs.Vec.Iter.{into_iter_items}
 use Rattle.sb_gather.specs.Steps.{TopStepBack, StepsBack}
 use Rattle.sb_gather.specs.Tops.{by_rank, first_of_both, IsTop}

@@ -1,6 +1,5 @@
 use Rattle.std.proofs.Common.{◌≡◌, ◌<◌, ◌≤◌, ◌++◌, length, take, sym, ap, subst, ◌∙◌, arith}
 use Rattle.std.specs.Prelude.{remove, option_to_list}
-use Rattle.std.specs.List.{insert}
 use Rattle.sb_gather.proofs.Search.{inserted_longer}
 use Rattle.sb_gather.proofs.Cut.{cut_away, cut_inserted, at_within, back_again}
 use Rattle.sb_gather.proofs.top.put_one.Goals as goal
@@ -31,6 +30,7 @@ returns-clause-undone g c =
     let early : at < c.args.top.now = omega (arith, c.if-at-places.false, c.places.ensures) in
     let out = rw c.places-2.ensures at c.in_ok-out.ensures.out in
     let inside = at_within c.args.top.now at c.room_for_one.new.list.items xs c.in_ok-out.out c.in_ok-out.ensures.items out early within in
-    let made = sym c.in_ok-insert.ensures.items in
-    (subst (λ l. at < length l) made (inserted_longer c.room_for_one.new.list.items at c.args.entry inside),
-    subst (λ l. remove l at ++ option_to_list c.in_ok-out.out ≡ xs) made (back_again at c.args.entry c.room_for_one.new.list.items xs c.in_ok-out.out c.in_ok-out.ensures.items inside))
+    let made = sym c.in_ok-insert.ensures.items in (
+      subst (λ l. at < length l) made (inserted_longer c.room_for_one.new.list.items at c.args.entry inside),
+      subst (λ l. remove l at ++ option_to_list c.in_ok-out.out ≡ xs) made (back_again at c.args.entry c.room_for_one.new.list.items xs c.in_ok-out.out c.in_ok-out.ensures.items inside),
+    )

@@ -1,4 +1,4 @@
-use Rattle.std.proofs.Common.{◌≡◌, ◌++◌, [], ◌∷◌, sym, subst}
+use Rattle.std.proofs.Common.{◌++◌, [], ◌∷◌, sym, subst}
 use Rattle.sb_gather.specs.Steps.{TopStepBack, StepsBack}
 use Rattle.sb_gather.proofs.Undoing.{last_step}
 use Rattle.sb_gather.proofs.top.take_back.Goals as goal
