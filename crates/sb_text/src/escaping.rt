@@ -74,7 +74,11 @@ fn meant_after_percent(high: u8, low: u8) -> Option<u8>
     ensures { result ≡ after_percent high low }
 {
     let byte = 16 * value_of_hex(high)? + value_of_hex(low)?;
-    if is_plain_byte(byte) { None } else { Some(byte) }
+    if is_plain_byte(byte) {
+        None
+    } else {
+        Some(byte)
+    }
 }
 
 fn value_of_hex(digit: u8) -> Option<u8>
@@ -128,5 +132,9 @@ fn hex(digit: u8) -> u8
     requires { digit < 16 }
     ensures { result ≡ hex_digit digit }
 {
-    if digit < 10 { b'0' + digit } else { b'A' - 10 + digit }
+    if digit < 10 {
+        b'0' + digit
+    } else {
+        b'A' - 10 + digit
+    }
 }

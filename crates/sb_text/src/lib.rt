@@ -8,6 +8,8 @@ mod fields;
 mod lines;
 mod ranges;
 mod splitting;
+#[cfg(test)]
+mod tests;
 mod text;
 
 pub use columns::Columns;

@@ -9,13 +9,13 @@ pub returns-in-Some-clause-spelled : goal.returns-in-Some-clause-spelled
 returns-in-Some-clause-spelled c =
     let reads : Some c.in-Some.text.items ≡ unescaped c.args.bytes.now = rw c.in-Some.is at c.in_ok-text.ensures in
     spelled_by escaped unescaped c.args.bytes.now c.in-Some.text.items c.from_bytes.result reads (unescaped-spelled c.args.bytes.now)
-      c.from_bytes.ensures.value c.from_bytes.ensures.utf8.0
+    c.from_bytes.ensures.value c.from_bytes.ensures.utf8.0
 
 pub returns-in-Some-clause-every : goal.returns-in-Some-clause-every
 returns-in-Some-clause-every c = λ t is_utf8 is.
     let reads : Some c.in-Some.text.items ≡ unescaped c.args.bytes.now = rw c.in-Some.is at c.in_ok-text.ensures in
     reads_every escaped unescaped c.args.bytes.now c.in-Some.text.items c.from_bytes.result reads
-      c.from_bytes.ensures.value c.from_bytes.ensures.utf8.1 t is_utf8 is (unescaped-escaped t (utf8_bytes t is_utf8))
+    c.from_bytes.ensures.value c.from_bytes.ensures.utf8.1 t is_utf8 is (unescaped-escaped t (utf8_bytes t is_utf8))
 
 pub returns-in-None-clause-every : goal.returns-in-None-clause-every
 returns-in-None-clause-every c = λ t is_utf8 is.
