@@ -119,3 +119,20 @@ integer-spelled (c ∷ bytes) =
           subst (λ b. IfSome (option_and_then negative (natural (2 ^ 63) bytes)) (λ z. b ∷ bytes ≡ signed_decimal z)) e (negative-spelled bytes (natural (2 ^ 63) bytes) (natural-spelled (2 ^ 63) bytes (omega arith)))
       | false ↦ λ other. positive-spelled (c ∷ bytes) (natural (2 ^ 63 - 1) (c ∷ bytes)) (natural-spelled (2 ^ 63 - 1) (c ∷ bytes) (omega arith))
     ] refl
+
+-- a number that is read is one of an i64
+pub integer-fits : (bytes : List ℕ) → IfSome (integer bytes) (FitsSigned w64)
+integer-fits [] = tt
+integer-fits (c ∷ bytes) =
+    elim (eqb c 45) as (λ b. IfSome (cond b (option_and_then negative (natural (2 ^ 63) bytes)) (option_map pos (natural (2 ^ 63 - 1) (c ∷ bytes)))) (FitsSigned w64)) [
+      | true ↦ negative_fits (natural (2 ^ 63) bytes) (natural-spelled (2 ^ 63) bytes (omega arith))
+      | false ↦ positive_fits (natural (2 ^ 63 - 1) (c ∷ bytes)) (natural-spelled (2 ^ 63 - 1) (c ∷ bytes) (omega arith))
+    ] where
+  negative_fits : (o : Option ℕ) → IfSome o (IsSpelled (2 ^ 63) bytes) → IfSome (option_and_then negative o) (FitsSigned w64)
+  negative_fits None is = tt
+  negative_fits (Some zero) is = tt
+  negative_fits (Some (suc n)) is = omega (arith, is.1)
+
+  positive_fits : (o : Option ℕ) → IfSome o (IsSpelled (2 ^ 63 - 1) (c ∷ bytes)) → IfSome (option_map pos o) (FitsSigned w64)
+  positive_fits None is = tt
+  positive_fits (Some n) is = omega (arith, is.1)

@@ -1,5 +1,5 @@
 ghost use Rattle.std.specs.Prelude.{◌≡◌, ℕ, ◌<◌, List, ◌++◌, Some, None, IsUtf8, OnOk, OnErr, IfOk, IfSome, IfNone, MatchOption, length, take, option_map};
-ghost use Rattle.sb_text.specs.Escape.{is_plain, hex_digit, escaped_byte, escaped, hex_value, byte_of_digits, after_percent, bytes_unescaped, unescaped};
+ghost use Rattle.sb_text.specs.Escape.{is_plain, hex_digit, escaped_byte, escaped, hex_value, byte_of_digits, after_percent, bytes_unescaped, unescaped, text_unescaped};
 ghost use Rattle.sb_text.specs.Field.{onto_text};
 
 use crate::{NoMemory, Text};
@@ -23,6 +23,7 @@ pub fn escape(_alloc: Global, out: &mut Vec<u8>, bytes: &[u8]) -> Result<(), NoM
 
 /// The text that an escaped form spells; `None` exactly where the bytes are no text's escaped form.
 pub fn unescape(alloc: Global, bytes: &[u8]) -> Result<Option<Text>, NoMemory>
+    ensures value { IfOk result (λ text. text ≡ text_unescaped bytes.now) }
     ensures spelled { IfOk result (λ text. IfSome text (λ t. IsUtf8 t × (bytes.now ≡ escaped t))) }
     ensures every { IfOk result (λ text. (t : List ℕ) → IsUtf8 t → bytes.now ≡ escaped t → text ≡ Some t) }
 {
