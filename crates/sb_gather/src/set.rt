@@ -20,8 +20,10 @@ pub struct SetM<K: Key> {
 }
 
 impl<K: Key> SetM<K> {
-    /// The dictionary.
-    pub fn new() -> SetM<K> {
+    /// The dictionary: the only value of its type.
+    pub fn new() -> SetM<K>
+        ensures { (dictionary : SetM K) → result ≡ dictionary }
+    {
         SetM { key: PhantomData }
     }
 }

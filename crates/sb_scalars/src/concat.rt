@@ -11,8 +11,10 @@ pub struct ConcatM<T: Key> {
 }
 
 impl<T: Key> ConcatM<T> {
-    /// The dictionary.
-    pub fn new() -> ConcatM<T> {
+    /// The dictionary: the only value of its type.
+    pub fn new() -> ConcatM<T>
+        ensures { (dictionary : ConcatM T) → result ≡ dictionary }
+    {
         ConcatM { item: PhantomData }
     }
 }

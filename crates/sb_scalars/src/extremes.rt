@@ -9,8 +9,10 @@ use std::alloc::Global;
 pub struct MinM;
 
 impl MinM {
-    /// The dictionary.
-    pub fn new() -> MinM {
+    /// The dictionary: the only value of its type.
+    pub fn new() -> MinM
+        ensures { (dictionary : MinM) → result ≡ dictionary }
+    {
         MinM
     }
 }
@@ -73,8 +75,10 @@ impl Undo for MinM {
 pub struct MaxM;
 
 impl MaxM {
-    /// The dictionary.
-    pub fn new() -> MaxM {
+    /// The dictionary: the only value of its type.
+    pub fn new() -> MaxM
+        ensures { (dictionary : MaxM) → result ≡ dictionary }
+    {
         MaxM
     }
 }

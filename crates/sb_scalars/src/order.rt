@@ -11,8 +11,10 @@ pub struct FirstM<T: Key> {
 }
 
 impl<T: Key> FirstM<T> {
-    /// The dictionary.
-    pub fn new() -> FirstM<T> {
+    /// The dictionary: the only value of its type.
+    pub fn new() -> FirstM<T>
+        ensures { (dictionary : FirstM T) → result ≡ dictionary }
+    {
         FirstM { value: PhantomData }
     }
 }
@@ -65,8 +67,10 @@ pub struct LastM<T: Key> {
 }
 
 impl<T: Key> LastM<T> {
-    /// The dictionary.
-    pub fn new() -> LastM<T> {
+    /// The dictionary: the only value of its type.
+    pub fn new() -> LastM<T>
+        ensures { (dictionary : LastM T) → result ≡ dictionary }
+    {
         LastM { value: PhantomData }
     }
 }

@@ -9,8 +9,10 @@ use std::alloc::Global;
 pub struct SumM;
 
 impl SumM {
-    /// The dictionary.
-    pub fn new() -> SumM {
+    /// The dictionary: the only value of its type.
+    pub fn new() -> SumM
+        ensures { (dictionary : SumM) → result ≡ dictionary }
+    {
         SumM
     }
 }
