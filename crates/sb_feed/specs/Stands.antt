@@ -11,9 +11,13 @@ use Rattle.sb_feed.specs.declared.parts.Rows.{Rows}
 use Rattle.sb_feed.specs.Keys.{key_order, same_key}
 use Rattle.sb_feed.specs.Jobs.{Job, Dictionaries, batch_count, batch_of, chunk_of, fold_of, is_in, AreValid}
 
+-- a part's value with its batch
+abbrev pub batch_value : {E : Type 0} → Part E → ℕ × E
+batch_value part = (part.batch, part.value)
+
 -- the values of a key with their batches, in the order of the parts
 abbrev pub key_values : {E : Type 0} → KeyBytes → List (Part E) → List (ℕ × E)
-key_values key parts = map (λ part. (part.batch, part.value)) (filter (λ part. same_key key part.key) parts)
+key_values key parts = map batch_value (filter (λ part. same_key key part.key) parts)
 
 -- the sum of a key's parts of a batch
 abbrev pub sum_at : {E : Type 0} → (ℕ → E → E → E) → KeyBytes → ℕ → List (Part E) → Option E

@@ -6,10 +6,13 @@ use crate::key::KeyBytes;
 use std::marker::Model;
 
 const MOST_RECORDS_OF_A_CHUNK: u64 = 1 << 20;
+
 const MOST_SHARDS: u32 = 64;
+
 const MOST_CHUNKS: u64 = 1 << 16;
 
 const OFFSET_BASIS: u64 = 14695981039346656037;
+
 const PRIME: u64 = 1099511628211;
 
 /// How a log is divided: its records into chunks, and the keys among shards.

@@ -50,7 +50,9 @@ impl Ord for KeyBytes {
     ghost matches_eq = { Prim.search (comparing, rules) };
 
     fn cmp(&self, other: &KeyBytes) -> Ordering {
-        self.store.cmp(&other.store).then(self.text.cmp(&other.text))
+        self.store
+            .cmp(&other.store)
+            .then(self.text.cmp(&other.text))
     }
 }
 

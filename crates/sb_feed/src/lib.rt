@@ -13,3 +13,6 @@ pub use feed::Feed;
 pub use key::KeyBytes;
 pub use parts::{Parcel, Part, PartList, RowList, Rows, Sums};
 pub use sb_laws::NoMemory;
+
+#[cfg(test)]
+mod tests;
