@@ -1,0 +1,38 @@
+ghost use Rattle.std.specs.Prelude.{◌≡◌, ◌<◌, ◌≤◌, ◌++◌, List, map, length, slice_get, slice_index, OnOk, OnErr};
+ghost use Rattle.std.specs.List.{AllByRecursion};
+ghost use Rattle.sb_feed.specs.Jobs.{Record, IsRecord, dictionaries};
+ghost use Rattle.sb_feed.specs.Feeds.{parts_at};
+
+use crate::NoMemory;
+use crate::family::Family;
+use crate::parts::Part;
+use sb_laws::Semigroup;
+use std::alloc::Global;
+
+/// The parts of a log's records.
+pub trait Feed: Family {
+    /// The records in log order.
+    ghost records: { Self → List (Record Self.M.El) };
+
+    /// The number of records.
+    fn len(&self) -> u64
+        ensures len { result ≡ length (records self.now) }
+        ensures valid { AllByRecursion (IsRecord (dictionaries Self.M.valid Self.M.add (Self.stores self.now) (Self.dictionary self.now))) (records self.now) };
+
+    /// The batch of a record.
+    fn batch(&self, i: u64) -> u64
+        requires { i < length (records self.now) }
+        ensures batch { result ≡ slice_index (map (λ r. r.batch) (records self.now)) i }
+        ensures limit { result ≤ 65535 };
+
+    /// Appends the parts of a record: each key at most once, in rising order.
+    fn emit(
+        &self,
+        alloc: Global,
+        i: u64,
+        out: &mut Vec<Part<<Self::M as Semigroup>::El>>,
+    ) -> Result<(), NoMemory>
+        requires { i < length (records self.now) }
+        ensures ok { OnOk result (out.new.items ≡ out.old.items ++ parts_at (records self.now) i) }
+        ensures err { OnErr result (out.new.items ≡ out.old.items) };
+}
