@@ -1,0 +1,4 @@
+pub mod Lists
+pub mod OrderEqual
+pub mod ValBack
+pub mod ValViews

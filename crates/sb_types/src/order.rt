@@ -1,0 +1,60 @@
+ghost use Rattle.std.specs.Prelude.{◌≡◌};
+ghost use Rattle.sb_types.specs.Order.{value_cmp, values_cmp, variant_of};
+ghost use Rattle.sb_types.specs.ValView.{value_of, view_values};
+
+use crate::values::Val;
+use std::cmp::Ordering;
+
+// The place of a value's variant among the variants.
+fn variant(value: &Val) -> u8
+    ensures { result ≡ variant_of (value_of value.now) }
+{
+    match value {
+        Val::Int(_) => 0,
+        Val::Text(_) => 1,
+        Val::Bool(_) => 2,
+        Val::Pair(..) => 3,
+        Val::Opt(_) => 4,
+        Val::List(_) => 5,
+        Val::Rec(_) => 6,
+    }
+}
+
+/// The order of values: variants in the order of their declaration, and within one variant numbers by size, texts by
+/// bytes, false before true, none before some, and pairs, lists and records part by part, a proper prefix first.
+#[cycle(compare)]
+pub fn compare(left: &Val, right: &Val) -> Ordering
+    ensures { result ≡ value_cmp (value_of left.now) (value_of right.now) }
+{
+    match (left, right) {
+        (Val::Int(a), Val::Int(b)) => a.cmp(b),
+        (Val::Text(a), Val::Text(b)) => a.cmp(b),
+        (Val::Bool(a), Val::Bool(b)) => a.cmp(b),
+        (Val::Pair(a, b), Val::Pair(c, d)) => match compare(a.get(), c.get()) {
+            Ordering::Equal => compare(b.get(), d.get()),
+            unequal => unequal,
+        },
+        (Val::Opt(None), Val::Opt(None)) => Ordering::Equal,
+        (Val::Opt(None), Val::Opt(Some(_))) => Ordering::Less,
+        (Val::Opt(Some(_)), Val::Opt(None)) => Ordering::Greater,
+        (Val::Opt(Some(a)), Val::Opt(Some(b))) => compare(a.get(), b.get()),
+        (Val::List(a), Val::List(b)) | (Val::Rec(a), Val::Rec(b)) => compare_lists(a.as_slice(), b.as_slice()),
+        _ => variant(left).cmp(&variant(right)),
+    }
+}
+
+#[cycle(compare)]
+fn compare_lists(left: &[Val], right: &[Val]) -> Ordering
+    ensures { result ≡ values_cmp (view_values left.now) (view_values right.now) }
+{
+    for (at, a) in left.iter().enumerate() {
+        let Some(b) = right.get(at) else {
+            return Ordering::Greater;
+        };
+        let order = compare(a, b);
+        if order != Ordering::Equal {
+            return order;
+        }
+    }
+    if left.len() < right.len() { Ordering::Less } else { Ordering::Equal }
+}
