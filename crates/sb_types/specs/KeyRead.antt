@@ -42,6 +42,11 @@ front_of read = record { value = value_of read.0; rest = read.1.now }
 abbrev pub front_with : List ℕ → Option Value → Option Front
 front_with rest = option_map (λ v. record { value = v; rest = rest })
 
+-- none, where this is what follows its text, and else what is read otherwise
+abbrev pub none_or : Option (List ℕ) → Option Front → Option Front
+none_or None other = other
+none_or (Some rest) other = Some (record { value = none; rest = rest })
+
 -- the key of this type at the front of the bytes
 abbrev pub key_front : ValueType → List ℕ → Option Front
 key_front ints bytes = front_with (after_leaf bytes) (option_map int (integer (leaf bytes)))
@@ -51,10 +56,9 @@ key_front (pairs a b) bytes =
     option_and_then (λ inside. option_and_then (λ left. option_and_then (λ second. option_and_then (λ right.
         option_map (λ rest. record { value = pair left.value right.value; rest = rest })
           (expect 41 right.rest)) (key_front b second)) (expect 44 left.rest)) (key_front a inside)) (expect 40 bytes)
-key_front (options a) [] = None
-key_front (options a) (b ∷ bytes) =
-    if b == 126 then Some (record { value = none; rest = bytes })
-    else (if b == 43 then option_map (λ front. record { value = some front.value; rest = front.rest }) (key_front a bytes) else None)
+key_front (options a) bytes =
+    none_or (expect 126 bytes)
+      (option_and_then (λ inside. option_map (λ front. record { value = some front.value; rest = front.rest }) (key_front a inside)) (expect 43 bytes))
 key_front (lists a most) bytes = None
 key_front (records fields) bytes = None
 

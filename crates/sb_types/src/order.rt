@@ -58,3 +58,20 @@ fn compare_lists(left: &[Val], right: &[Val]) -> Ordering
     }
     if left.len() < right.len() { Ordering::Less } else { Ordering::Equal }
 }
+
+impl PartialEq for Val {
+    ghost use Rattle.std.specs.Ordering.{eq_by_cmp, on};
+    ghost use Rattle.std.proofs.Common.{rules};
+    ghost use Rattle.std.specs.Cmp.Rules.{comparing};
+    ghost use Rattle.sb_types.specs.Order.{value_cmp};
+    ghost use Rattle.sb_types.specs.OrderLaws.{value_total};
+    ghost use Rattle.sb_types.specs.ValView.{value_of};
+
+    ghost eq = { eq_by_cmp (on value_of value_cmp) };
+
+    ghost laws = { Prim.search (comparing, rules, value_total) };
+
+    fn eq(&self, other: &Val) -> bool {
+        compare(self, other) == Ordering::Equal
+    }
+}

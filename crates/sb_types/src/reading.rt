@@ -59,17 +59,18 @@ fn read_front<'a>(alloc: Global, ty: &Ty, bytes: &'a [u8]) -> Result<Option<(Val
             let pair = Val::Pair(Boxed::new(alloc, left)?, Boxed::new(alloc, right)?);
             Ok(Some((pair, bytes)))
         }
-        Ty::Opt(of) => match bytes {
-            [b'~', bytes @ ..] => Ok(Some((Val::Opt(None), bytes))),
-            [b'+', bytes @ ..] => {
-                let Some((inside, bytes)) = read_front(alloc, of.get(), bytes)? else {
-                    return Ok(None);
-                };
-                let inside = Boxed::new(alloc, inside)?;
-                Ok(Some((Val::Opt(Some(inside)), bytes)))
+        Ty::Opt(of) => {
+            if let Some(bytes) = expect(b'~', bytes) {
+                return Ok(Some((Val::Opt(None), bytes)));
             }
-            _ => Ok(None),
-        },
+            let Some(bytes) = expect(b'+', bytes) else {
+                return Ok(None);
+            };
+            let Some((inside, bytes)) = read_front(alloc, of.get(), bytes)? else {
+                return Ok(None);
+            };
+            Ok(Some((Val::Opt(Some(Boxed::new(alloc, inside)?)), bytes)))
+        }
         Ty::List { .. } | Ty::Rec(_) => Ok(None),
     }
 }

@@ -1,4 +1,4 @@
-ghost use Rattle.std.specs.Prelude.{◌≡◌, ◌++◌, OnOk, OnErr, codes, length, take};
+ghost use Rattle.std.specs.Prelude.{◌≡◌, ◌==◌, [], ◌++◌, if◌then◌else◌, OnOk, OnErr, codes, length, take};
 ghost use Rattle.sb_types.specs.Text.{value_text, parts_text};
 ghost use Rattle.sb_types.specs.ValView.{value_of, view_values};
 
@@ -46,7 +46,8 @@ fn push_value(alloc: Global, value: &Val, out: &mut Vec<u8>) -> Result<(), NoMem
         }
         Val::Opt(Some(inside)) => {
             out.push(b'+')?;
-            push_value(alloc, inside.get(), out)
+            push_value(alloc, inside.get(), out)?;
+            Ok(())
         }
         Val::List(parts) => {
             out.push(b'[')?;
@@ -69,10 +70,19 @@ fn push_parts(alloc: Global, parts: &[Val], out: &mut Vec<u8>) -> Result<(), NoM
     ensures front { take (length out.old.items) out.new.items ≡ out.old.items }
 {
     for (at, part) in parts.iter().enumerate() {
-        if at > 0 {
-            out.push(b',')?;
-        }
+        out.extend_from_slice(comma_before(at))?;
         push_value(alloc, part, out)?;
     }
     Ok(())
+}
+
+// A comma before each part but the first.
+fn comma_before(at: usize) -> &'static [u8]
+    ensures { result.now ≡ (if at == 0 then [] else codes ",") }
+{
+    if at == 0 {
+        b"".as_slice()
+    } else {
+        b",".as_slice()
+    }
 }
