@@ -56,12 +56,12 @@ inner_plain b plain =
       | true ↦ λ ends. let no : is_plain b ≡ false = unplain b ends in cc
       | false ↦ λ _. refl
     ] refl where
-  unplain : (b : ℕ) → ends_part b ≡ true → is_plain b ≡ false
-  unplain b ends =
-      elim (eqb b 44) as (λ a. eqb b 44 ≡ a → (a || eqb b 41) ≡ true → is_plain b ≡ false) [
-        | true ↦ λ is _. let e : b ≡ 44 = grind (arith, nat_tests) in rw e refl
-        | false ↦ λ _ is. let e : b ≡ 41 = grind (arith, nat_tests, is) in rw e refl
-      ] refl ends
+      unplain : (b : ℕ) → ends_part b ≡ true → is_plain b ≡ false
+      unplain b ends =
+          elim (eqb b 44) as (λ a. eqb b 44 ≡ a → (a || eqb b 41) ≡ true → is_plain b ≡ false) [
+            | true ↦ λ is _. let e : b ≡ 44 = grind (arith, nat_tests) in rw e refl
+            | false ↦ λ _ is. let e : b ≡ 41 = grind (arith, nat_tests, is) in rw e refl
+          ] refl ends
 
 inner_byte : (b : ℕ) → b < 256 → IsInner (escaped_byte b)
 inner_byte b small =
@@ -184,13 +184,13 @@ text_if bytes (Some t) is =
 truth_if : (bytes : List ℕ) → IfSome (option_map truth (truth_of (leaf bytes))) (λ v. IsKeyOf truths v × (leaf bytes ≡ value_text v))
 truth_if bytes =
     elim (bytes_eq (leaf bytes) (codes "true")) as (λ b. bytes_eq (leaf bytes) (codes "true") ≡ b
-      → IfSome (option_map truth (cond b (Some true) (cond (bytes_eq (leaf bytes) (codes "false")) (Some false) None))) (λ v. IsKeyOf truths v × (leaf bytes ≡ value_text v))) [
+    → IfSome (option_map truth (cond b (Some true) (cond (bytes_eq (leaf bytes) (codes "false")) (Some false) None))) (λ v. IsKeyOf truths v × (leaf bytes ≡ value_text v))) [
       | true ↦ λ is. ((true, refl), (bytes_eq-Decides (leaf bytes) (codes "true")).0 is)
       | false ↦ λ _. elim (bytes_eq (leaf bytes) (codes "false")) as (λ b. bytes_eq (leaf bytes) (codes "false") ≡ b
           → IfSome (option_map truth (cond b (Some false) None)) (λ v. IsKeyOf truths v × (leaf bytes ≡ value_text v))) [
-        | true ↦ λ is. ((false, refl), (bytes_eq-Decides (leaf bytes) (codes "false")).0 is)
-        | false ↦ λ _. tt
-      ] refl
+            | true ↦ λ is. ((false, refl), (bytes_eq-Decides (leaf bytes) (codes "false")).0 is)
+            | false ↦ λ _. tt
+          ] refl
     ] refl
 
 pair_spelled : (bytes inside second rest : List ℕ) (left right : Front) → bytes ≡ 40 ∷ inside → inside ≡ value_text left.value ++ left.rest → left.rest ≡ 44 ∷ second
@@ -215,12 +215,12 @@ front_spelled (pairs a b) bytes =
     and_then_if (expect 44 left.rest) _ (λ second. left.rest ≡ 44 ∷ second) (IsFront (pairs a b) bytes) (expect-spelled 44 left.rest) (λ second comma.
     and_then_if (key_front b second) _ (IsFront b second) (IsFront (pairs a b) bytes) (front_spelled b second) (λ right is_right.
     map_if (expect 41 right.rest) _ (λ rest. right.rest ≡ 41 ∷ rest) (IsFront (pairs a b) bytes) (expect-spelled 41 right.rest) (λ rest closed.
-      ((left.value, right.value, refl, is_left.0, is_right.0), pair_spelled bytes inside second rest left right opened is_left.1 comma is_right.1 closed))))))
+    ((left.value, right.value, refl, is_left.0, is_right.0), pair_spelled bytes inside second rest left right opened is_left.1 comma is_right.1 closed))))))
 front_spelled (options a) bytes =
     none_if a bytes (expect 126 bytes) _ (expect-spelled 126 bytes)
-      (and_then_if (expect 43 bytes) _ (λ inside. bytes ≡ 43 ∷ inside) (IsFront (options a) bytes) (expect-spelled 43 bytes) (λ inside opened.
-       map_if (key_front a inside) _ (IsFront a inside) (IsFront (options a) bytes) (front_spelled a inside) (λ front is.
-         (inr (front.value, refl, is.0), opened ∙ ap (λ xs. 43 ∷ xs) is.1))))
+    (and_then_if (expect 43 bytes) _ (λ inside. bytes ≡ 43 ∷ inside) (IsFront (options a) bytes) (expect-spelled 43 bytes) (λ inside opened.
+    map_if (key_front a inside) _ (IsFront a inside) (IsFront (options a) bytes) (front_spelled a inside) (λ front is.
+    (inr (front.value, refl, is.0), opened ∙ ap (λ xs. 43 ∷ xs) is.1))))
 front_spelled (lists a most) bytes = tt
 front_spelled (records fields) bytes = tt
 

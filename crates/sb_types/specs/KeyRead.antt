@@ -54,11 +54,11 @@ key_front texts bytes = front_with (after_leaf bytes) (option_map text (text_une
 key_front truths bytes = front_with (after_leaf bytes) (option_map truth (truth_of (leaf bytes)))
 key_front (pairs a b) bytes =
     option_and_then (λ inside. option_and_then (λ left. option_and_then (λ second. option_and_then (λ right.
-        option_map (λ rest. record { value = pair left.value right.value; rest = rest })
-          (expect 41 right.rest)) (key_front b second)) (expect 44 left.rest)) (key_front a inside)) (expect 40 bytes)
+    option_map (λ rest. record { value = pair left.value right.value; rest = rest })
+    (expect 41 right.rest)) (key_front b second)) (expect 44 left.rest)) (key_front a inside)) (expect 40 bytes)
 key_front (options a) bytes =
     none_or (expect 126 bytes)
-      (option_and_then (λ inside. option_map (λ front. record { value = some front.value; rest = front.rest }) (key_front a inside)) (expect 43 bytes))
+    (option_and_then (λ inside. option_map (λ front. record { value = some front.value; rest = front.rest }) (key_front a inside)) (expect 43 bytes))
 key_front (lists a most) bytes = None
 key_front (records fields) bytes = None
 

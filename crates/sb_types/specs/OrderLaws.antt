@@ -73,7 +73,7 @@ mutual
   tree_trans : (x y z : Tree) → tree_cmp x y ≡ Less → tree_cmp y z ≡ Less → tree_cmp x z ≡ Less
   tree_trans (node h ts) (node k us) (node l vs) =
       then_less (head_cmp h k) (head_cmp k l) (head_cmp h l) (trees_cmp ts us) (trees_cmp us vs) (trees_cmp ts vs)
-        (head_total.trans h k l) (head_total.congr h k l) (other_side head_cmp head_total.antisymm head_total.congr h k l) (trees_trans ts us vs)
+      (head_total.trans h k l) (head_total.congr h k l) (other_side head_cmp head_total.antisymm head_total.congr h k l) (trees_trans ts us vs)
 
   trees_trans : (x y z : Trees) → trees_cmp x y ≡ Less → trees_cmp y z ≡ Less → trees_cmp x z ≡ Less
   trees_trans nil nil z a b = cc
@@ -83,7 +83,7 @@ mutual
   trees_trans (cons t ts) (cons u us) nil a b = cc
   trees_trans (cons t ts) (cons u us) (cons v vs) a b =
       then_less (tree_cmp t u) (tree_cmp u v) (tree_cmp t v) (trees_cmp ts us) (trees_cmp us vs) (trees_cmp ts vs)
-        (tree_trans t u v) (tree_congr t u v) (other_side tree_cmp tree_antisymm tree_congr t u v) (trees_trans ts us vs) a b
+      (tree_trans t u v) (tree_congr t u v) (other_side tree_cmp tree_antisymm tree_congr t u v) (trees_trans ts us vs) a b
 
 pub value_total : IsTotalOrder value_cmp
 value_total = record {

@@ -14,18 +14,15 @@ ghost use Rattle.sb_types.specs.declared.values.Val.{Val};
 pub fn order_is_total()
     ensures total { IsTotalOrder value_cmp }
     ensures equal { (v w : Value) → value_cmp v w ≡ Equal ↔ (v ≡ w) }
-{
-}
+{}
 
 /// No two keys of one key type have one text.
 pub fn keys_have_own_texts()
     ensures { (t : ValueType) (v w : Value) → IsKeyOf t v → IsKeyOf t w → value_text v ≡ value_text w → v ≡ w }
-{
-}
+{}
 
 /// A `Val` and the value that contracts see are one thing.
 pub fn views_are_exact()
     ensures back { (v : Val) → val_of (value_of v) ≡ v }
     ensures value { (v : Value) → value_of (val_of v) ≡ v }
-{
-}
+{}

@@ -5,6 +5,8 @@ mod copying;
 mod laws;
 mod order;
 mod reading;
+#[cfg(test)]
+mod tests;
 mod types;
 mod values;
 mod writing;

@@ -38,7 +38,10 @@ pub fn compare(left: &Val, right: &Val) -> Ordering
         (Val::Opt(None), Val::Opt(Some(_))) => Ordering::Less,
         (Val::Opt(Some(_)), Val::Opt(None)) => Ordering::Greater,
         (Val::Opt(Some(a)), Val::Opt(Some(b))) => compare(a.get(), b.get()),
-        (Val::List(a), Val::List(b)) | (Val::Rec(a), Val::Rec(b)) => compare_lists(a.as_slice(), b.as_slice()),
+        (Val::List(a), Val::List(b)) | (Val::Rec(a), Val::Rec(b)) => compare_lists(
+            a.as_slice(),
+            b.as_slice(),
+        ),
         _ => variant(left).cmp(&variant(right)),
     }
 }
@@ -56,7 +59,11 @@ fn compare_lists(left: &[Val], right: &[Val]) -> Ordering
             return order;
         }
     }
-    if left.len() < right.len() { Ordering::Less } else { Ordering::Equal }
+    if left.len() < right.len() {
+        Ordering::Less
+    } else {
+        Ordering::Equal
+    }
 }
 
 impl PartialEq for Val {
@@ -73,5 +80,52 @@ impl PartialEq for Val {
 
     fn eq(&self, other: &Val) -> bool {
         compare(self, other) == Ordering::Equal
+    }
+}
+
+impl Eq for Val {
+    ghost use Rattle.std.proofs.Common.{rules};
+    ghost use Rattle.std.specs.Cmp.Rules.{comparing};
+    ghost use Rattle.sb_types.specs.OrderLaws.{value_total};
+
+    ghost laws = { Prim.search (comparing, rules, value_total) };
+}
+
+impl Ord for Val {
+    ghost use Rattle.std.specs.Ordering.{on};
+    ghost use Rattle.std.proofs.Common.{rules};
+    ghost use Rattle.std.specs.Cmp.Rules.{comparing};
+    ghost use Rattle.sb_types.specs.Order.{value_cmp};
+    ghost use Rattle.sb_types.specs.OrderLaws.{value_total};
+    ghost use Rattle.sb_types.specs.ValView.{value_of};
+
+    ghost cmp = { on value_of value_cmp };
+
+    ghost total = { Prim.search (comparing, rules, value_total) };
+
+    ghost matches_partial_cmp = { Prim.search (comparing, rules) };
+
+    ghost matches_eq = { Prim.search (comparing, rules) };
+
+    fn cmp(&self, other: &Val) -> Ordering {
+        compare(self, other)
+    }
+}
+
+impl PartialOrd for Val {
+    ghost use Rattle.std.specs.Ordering.{on, as_partial_cmp};
+    ghost use Rattle.std.proofs.Common.{rules};
+    ghost use Rattle.std.specs.Cmp.{partial_order_from_own_ties};
+    ghost use Rattle.std.specs.Cmp.Rules.{comparing};
+    ghost use Rattle.sb_types.specs.Order.{value_cmp};
+    ghost use Rattle.sb_types.specs.OrderLaws.{value_total};
+    ghost use Rattle.sb_types.specs.ValView.{value_of};
+
+    ghost partial_cmp = { as_partial_cmp (on value_of value_cmp) };
+
+    ghost laws = { partial_order_from_own_ties (Prim.search (comparing, rules, value_total)) (Prim.search (comparing, rules)) };
+
+    fn partial_cmp(&self, other: &Val) -> Option<Ordering> {
+        Some(compare(self, other))
     }
 }

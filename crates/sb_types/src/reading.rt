@@ -33,7 +33,11 @@ fn read_whole(alloc: Global, ty: &Ty, bytes: &[u8]) -> Result<Option<Val>, NoMem
 
 // The key at the front of the bytes, and what follows its text.
 #[cycle(read)]
-fn read_front<'a>(alloc: Global, ty: &Ty, bytes: &'a [u8]) -> Result<Option<(Val, &'a [u8])>, NoMemory>
+fn read_front<'a>(
+    alloc: Global,
+    ty: &Ty,
+    bytes: &'a [u8],
+) -> Result<Option<(Val, &'a [u8])>, NoMemory>
     ensures { IfOk result (λ read. option_map front_of read ≡ key_front (type_of ty.now) bytes.now) }
 {
     match ty {

@@ -11,10 +11,7 @@ pub enum Ty {
     Pair(Boxed<Ty>, Boxed<Ty>),
     Opt(Boxed<Ty>),
     /// A list of at most `most` values.
-    List {
-        of: Boxed<Ty>,
-        most: u64,
-    },
+    List { of: Boxed<Ty>, most: u64 },
     Rec(Fields),
 }
 
