@@ -1,12 +1,11 @@
 -- The text of a key is read as the key, and a text that is read is the text of its key.
-use Rattle.std.proofs.Common.{◌≡◌, ◌∙◌, ◌⊎◌, inl, inr, ℕ, suc, ◌+◌, ◌-◌, ◌*◌, ◌/◌, ◌%◌, ◌^◌, ◌<◌, ℤ, pos, negsuc, Bool, true, false, cond, ◌||◌, List, [], ◌∷◌, ◌++◌, Option, Some, None, refl, sym, ap, subst, arith, eqb, append_assoc, append-nil}
-use Rattle.std.specs.Prelude.{IfSome, option_map, option_and_then, nat_lt, nat_le, codes, bytes_eq, decimal, FitsSigned, IsUtf8}
+use Rattle.std.proofs.Common.{◌≡◌, ◌∙◌, inl, inr, ℕ, suc, ◌+◌, ◌/◌, ◌%◌, ◌^◌, ◌<◌, ℤ, pos, negsuc, Bool, true, false, cond, ◌||◌, List, [], ◌∷◌, ◌++◌, Option, Some, None, refl, sym, ap, arith, eqb, append_assoc, append-nil}
+use Rattle.std.specs.Prelude.{IfSome, option_map, option_and_then, nat_lt, codes, bytes_eq, decimal, FitsSigned, IsUtf8}
 use Rattle.std.specs.Int.{w64}
 use Rattle.std.specs.Fmt.{signed_decimal}
 use Rattle.std.specs.List.{AllByRecursion, flat_map}
 use Rattle.std.specs.Str.{is_utf8}
 use Rattle.std.proofs.lemmas.Fmt.{decimal_by_steps}
-use Rattle.std.proofs.lemmas.Option.{IfSome_then}
 use Rattle.std.proofs.lemmas.Slice.Eq.{bytes_eq-Decides}
 use Rattle.std.proofs.lemmas.Str.{is_utf8-from_IsUtf8, IsUtf8-from_is_utf8}
 use Rattle.std.proofs.lemmas.Bool.Decides.{nat_tests}
@@ -24,7 +23,7 @@ use Rattle.sb_types.specs.declared.types.Ty.{Ty, Opt as OptTy}
 use Rattle.sb_types.specs.declared.values.Val.{Val, Opt}
 use Rattle.sb_types.proofs.TyViews.{type_of-Opt}
 use Rattle.sb_types.proofs.ValViews.{value_of-Some}
-use Rattle.sb_types.specs.Value.{Value, int, text, truth, pair, none, some}
+use Rattle.sb_types.specs.Value.{Value, int, text, truth, pair}
 use Rattle.sb_types.specs.ValueType.{ValueType, ints, texts, truths, pairs, options, lists, records}
 
 -- texts that no byte ends

@@ -1,8 +1,8 @@
 -- Each `Val` is the one that its value stands for, and each value is that of a `Val`.
 use Rattle.std.proofs.Common.{◌≡◌, ◌∙◌, List, [], ◌∷◌, map, Some, None, refl, ap, sym, subst}
-use Rattle.sb_types.specs.Value.{Value, Values, int, text, truth, pair, none, some, list, rec, end, more, values_of}
+use Rattle.sb_types.specs.Value.{Value, Values, int, text, truth, pair, none, some, list, rec, end, more}
 use Rattle.sb_types.specs.ValView.{value_of, view_values, view_layer, val_of, vals_of}
-use Rattle.sb_types.specs.declared.values.Val.{Val, Int, Text, Bool as Truth, Pair, Opt, List as Listed, Rec}
+use Rattle.sb_types.specs.declared.values.Val.{Val, Pair, Opt, List as Listed, Rec}
 use Rattle.sb_types.specs.declared.values.Val.TheOpen as layer
 use Rattle.sb_types.specs.declared.values.Val.TheOpen.{Val-F}
 use Rattle.sb_types.specs.declared.values.Val.TheFolds.{fold-roll-Val, ind-Val, map-Val}

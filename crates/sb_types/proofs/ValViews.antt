@@ -1,5 +1,5 @@
 -- The equations of `value_of`, one for each variant.
-use Rattle.std.proofs.Common.{◌≡◌, ◌∙◌, ℕ, ℤ, Bool, List, map, Some, None, ap, sym}
+use Rattle.std.proofs.Common.{◌≡◌, ◌∙◌, ℕ, ℤ, Bool, List, Some, None, ap, sym}
 use Rattle.sb_types.specs.Value.{Value, int, text, truth, pair, none, some, list, rec}
 use Rattle.sb_types.specs.ValView.{value_of, view_values, view_layer}
 use Rattle.sb_types.specs.declared.values.Val.{Val, Int, Text, Bool as Truth, Pair, Opt, List as Listed, Rec}

@@ -5,8 +5,7 @@ use Rattle.std.specs.Ordering.{ordering_then, ordering_reverse}
 use Rattle.std.specs.Cmp.{IsTotalOrder}
 use Rattle.std.specs.Cmp.Rules.{comparing}
 use Rattle.std.proofs.Common.{◌≡◌, ◌∙◌, refl, sym, ap, rules}
-use Rattle.sb_types.specs.Order.{Head, head_cmp, Tree, Trees, node, nil, cons, tree_cmp, trees_cmp, tree_of, value_cmp}
-use Rattle.sb_types.specs.Value.{Value}
+use Rattle.sb_types.specs.Order.{head_cmp, Tree, Trees, node, nil, cons, tree_cmp, trees_cmp, tree_of, value_cmp}
 
 -- heads
 head_total : IsTotalOrder head_cmp

@@ -1,5 +1,5 @@
 -- The text of a value.
-use Rattle.std.specs.Prelude.{ℕ, true, false, codes, List, [], ◌∷◌, ◌++◌}
+use Rattle.std.specs.Prelude.{ℕ, true, false, codes, List, [], ◌++◌}
 use Rattle.std.specs.Fmt.{signed_decimal}
 use Rattle.sb_text.specs.Escape.{escaped}
 use Rattle.sb_types.specs.Value.{Value, Values, int, text, truth, pair, none, some, list, rec, end, more}

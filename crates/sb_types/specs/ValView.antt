@@ -1,5 +1,5 @@
 -- The value that a `Val` stands for, and back.
-use Rattle.std.specs.Prelude.{ℕ, List, [], ◌∷◌, map, Option, Some, None}
+use Rattle.std.specs.Prelude.{List, [], ◌∷◌, map, Some, None}
 use Rattle.sb_types.specs.Value.{Value, Values, int, text, truth, pair, none, some, list, rec, end, more, values_of}
 use Rattle.sb_types.specs.declared.values.Val.{Val, Int, Text, Bool, Pair, Opt, List as Listed, Rec}
 use Rattle.sb_types.specs.declared.values.Val.TheOpen as layer

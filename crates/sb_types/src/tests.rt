@@ -29,10 +29,8 @@ fn ints(alloc: Global, numbers: &[i64]) -> Result<Vals, NoMemory> {
     Ok(Items::from_vec(vals))
 }
 
-type Printed = Vec<(Val, &'static str)>;
-
-// Values in rising order, each with its text.
-fn rising(rt: &impl Abort, alloc: Global) -> Result<Printed, NoMemory> {
+// Values in rising order.
+fn rising(rt: &impl Abort, alloc: Global) -> Result<Vec<Val>, NoMemory> {
     let mut all = Vec::new(alloc);
     add_leaves(rt, alloc, &mut all)?;
     add_pairs(rt, alloc, &mut all)?;
@@ -41,41 +39,41 @@ fn rising(rt: &impl Abort, alloc: Global) -> Result<Printed, NoMemory> {
     Ok(all)
 }
 
-fn add_leaves(rt: &impl Abort, alloc: Global, all: &mut Printed) -> Result<(), NoMemory> {
-    all.push((Val::Int(i64::MIN), "-9223372036854775808"))?;
-    all.push((Val::Int(0), "0"))?;
-    all.push((Val::Int(10), "10"))?;
-    all.push((word(rt, alloc, "")?, "%"))?;
-    all.push((word(rt, alloc, "a,b")?, "a%2Cb"))?;
-    all.push((word(rt, alloc, "ab")?, "ab"))?;
-    all.push((Val::Bool(false), "false"))?;
-    all.push((Val::Bool(true), "true"))?;
+fn add_leaves(rt: &impl Abort, alloc: Global, all: &mut Vec<Val>) -> Result<(), NoMemory> {
+    all.push(Val::Int(i64::MIN))?;
+    all.push(Val::Int(0))?;
+    all.push(Val::Int(10))?;
+    all.push(word(rt, alloc, "")?)?;
+    all.push(word(rt, alloc, "a,b")?)?;
+    all.push(word(rt, alloc, "ab")?)?;
+    all.push(Val::Bool(false))?;
+    all.push(Val::Bool(true))?;
     Ok(())
 }
 
-fn add_pairs(rt: &impl Abort, alloc: Global, all: &mut Printed) -> Result<(), NoMemory> {
-    all.push((pair(alloc, Val::Int(1), Val::Int(9))?, "(1,9)"))?;
-    all.push((pair(alloc, Val::Int(2), Val::Int(-1))?, "(2,-1)"))?;
+fn add_pairs(rt: &impl Abort, alloc: Global, all: &mut Vec<Val>) -> Result<(), NoMemory> {
+    all.push(pair(alloc, Val::Int(1), Val::Int(9))?)?;
+    all.push(pair(alloc, Val::Int(2), Val::Int(-1))?)?;
     let key = word(rt, alloc, "a,b")?;
     let three = some(alloc, Val::Int(3))?;
-    all.push((pair(alloc, key, three)?, "(a%2Cb,+3)"))?;
+    all.push(pair(alloc, key, three)?)?;
     Ok(())
 }
 
-fn add_options(alloc: Global, all: &mut Printed) -> Result<(), NoMemory> {
-    all.push((Val::Opt(None), "~"))?;
-    all.push((some(alloc, Val::Int(5))?, "+5"))?;
-    all.push((some(alloc, Val::Opt(None))?, "+~"))?;
+fn add_options(alloc: Global, all: &mut Vec<Val>) -> Result<(), NoMemory> {
+    all.push(Val::Opt(None))?;
+    all.push(some(alloc, Val::Int(5))?)?;
+    all.push(some(alloc, Val::Opt(None))?)?;
     Ok(())
 }
 
-fn add_lists(alloc: Global, all: &mut Printed) -> Result<(), NoMemory> {
-    all.push((Val::List(ints(alloc, [].as_slice())?), "[]"))?;
-    all.push((Val::List(ints(alloc, [1].as_slice())?), "[1]"))?;
-    all.push((Val::List(ints(alloc, [1, 0].as_slice())?), "[1,0]"))?;
-    all.push((Val::List(ints(alloc, [2].as_slice())?), "[2]"))?;
-    all.push((Val::Rec(ints(alloc, [].as_slice())?), "{}"))?;
-    all.push((Val::Rec(ints(alloc, [7, 8, 9].as_slice())?), "{7,8,9}"))?;
+fn add_lists(alloc: Global, all: &mut Vec<Val>) -> Result<(), NoMemory> {
+    all.push(Val::List(ints(alloc, [].as_slice())?))?;
+    all.push(Val::List(ints(alloc, [1].as_slice())?))?;
+    all.push(Val::List(ints(alloc, [1, 0].as_slice())?))?;
+    all.push(Val::List(ints(alloc, [2].as_slice())?))?;
+    all.push(Val::Rec(ints(alloc, [].as_slice())?))?;
+    all.push(Val::Rec(ints(alloc, [7, 8, 9].as_slice())?))?;
     Ok(())
 }
 
@@ -83,19 +81,56 @@ fn greater<T: Ord + Drop>(left: T, right: T) -> T {
     if left > right { left } else { right }
 }
 
+fn expect_value(
+    rt: &impl Abort,
+    alloc: Global,
+    value: &Val,
+    printed: &str,
+) -> Result<(), NoMemory> {
+    let mut out = Vec::from_slice(alloc, b"> ".as_slice())?;
+    text(alloc, value, &mut out)?;
+    assert_eq!(rt;
+        out.as_slice().strip_prefix(b"> ".as_slice()),
+        Some(printed.as_bytes())
+    );
+    assert_eq!(rt; copy(alloc, value)? == *value, true);
+    Ok(())
+}
+
 #[test]
 fn values_are_ordered_and_printed(rt: HostRuntime) -> Result<(), Fail> {
     let all = rising(&rt, rt.alloc())?;
-    for (i, (left, printed)) in all.iter().enumerate() {
-        let mut out = Vec::from_slice(rt.alloc(), b"> ".as_slice())?;
-        text(rt.alloc(), left, &mut out)?;
-        assert_eq!(rt; &out[2..], printed.as_bytes());
-        for (j, (right, _)) in all.iter().enumerate() {
+    let texts = [
+        "-9223372036854775808",
+        "0",
+        "10",
+        "%",
+        "a%2Cb",
+        "ab",
+        "false",
+        "true",
+        "(1,9)",
+        "(2,-1)",
+        "(a%2Cb,+3)",
+        "~",
+        "+5",
+        "+~",
+        "[]",
+        "[1]",
+        "[1,0]",
+        "[2]",
+        "{}",
+        "{7,8,9}",
+    ];
+    assert_eq!(rt; all.len(), texts.len());
+    for (i, left) in all.iter().enumerate() {
+        if let Some(expected) = texts.get(i) {
+            expect_value(&rt, rt.alloc(), left, expected)?;
+        }
+        for (j, right) in all.iter().enumerate() {
             assert_eq!(rt; compare(left, right), i.cmp(&j));
             assert_eq!(rt; left == right, i == j);
         }
-        let copied = copy(rt.alloc(), left)?;
-        assert_eq!(rt; copied == *left, true);
     }
     assert_eq!(rt;
         greater(Val::Int(3), Val::Bool(false)) == Val::Bool(false),
