@@ -1,0 +1,7 @@
+pub mod KeyReads
+pub mod Lists
+pub mod OrderEqual
+pub mod TyViews
+pub mod ValBack
+pub mod ValTexts
+pub mod ValViews

@@ -1,0 +1,5 @@
+use Rattle.sb_types.proofs.KeyReads.{same_key}
+use Rattle.sb_types.proofs.laws.keys_have_own_texts.Goals as goal
+
+pub returns : goal.returns
+returns c = same_key

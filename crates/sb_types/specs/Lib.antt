@@ -1,0 +1,9 @@
+pub mod Key
+pub mod KeyRead
+pub mod Order
+pub mod OrderLaws
+pub mod Text
+pub mod TyView
+pub mod ValView
+pub mod Value
+pub mod ValueType

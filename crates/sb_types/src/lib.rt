@@ -1,0 +1,20 @@
+//! Types and values of programs: their order, their texts, and keys read from texts.
+#![tactic(auto)]
+
+mod copying;
+mod laws;
+mod order;
+mod reading;
+#[cfg(test)]
+mod tests;
+mod types;
+mod values;
+mod writing;
+
+pub use copying::copy;
+pub use laws::{keys_have_own_texts, order_is_total, views_are_exact};
+pub use order::compare;
+pub use reading::read_key;
+pub use types::{Field, Fields, Mono, Ty};
+pub use values::{LogRecord, Val, Vals};
+pub use writing::text;
