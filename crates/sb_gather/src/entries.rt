@@ -1,8 +1,6 @@
-ghost use Rattle.std.specs.Prelude.{◌≡◌, ◌<◌, List, length, IfOk, OnOk, OnErr};
+ghost use Rattle.std.specs.Prelude.{◌≡◌, List, IfOk, OnOk, OnErr};
 ghost use Rattle.std.specs.List.{AllByRecursion};
-ghost use Rattle.std.specs.Vec.{vec_len, vec_capacity};
-ghost use Rattle.std.specs.declared.cmp.Ordering.TheVariants.{Equal};
-ghost use Rattle.sb_gather.specs.Entries.{IsRising, AreEntries, entry_added, entries_added};
+ghost use Rattle.sb_gather.specs.Entries.{AreEntries, entry_added, entries_added};
 ghost use Rattle.sb_gather.specs.EntryLaws.{JoinLaws};
 ghost use Rattle.sb_gather.specs.Steps.{StepBack, StepsBack};
 

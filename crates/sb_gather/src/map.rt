@@ -1,4 +1,4 @@
-ghost use Rattle.std.specs.Prelude.{◌≡◌, Ok, [], List};
+ghost use Rattle.std.specs.Prelude.{◌≡◌, Ok, []};
 ghost use Rattle.sb_gather.specs.Entries.{AreEntries};
 ghost use Rattle.sb_gather.specs.Maps.{by_key, values_added, maps_added};
 ghost use Rattle.sb_gather.specs.Steps.{StepBack, StepsBack};

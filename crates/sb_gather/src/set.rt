@@ -1,4 +1,4 @@
-ghost use Rattle.std.specs.Prelude.{◌≡◌, Ok, [], List, IsOk};
+ghost use Rattle.std.specs.Prelude.{◌≡◌, Ok, [], IsOk};
 ghost use Rattle.sb_gather.specs.Entries.{AreEntries};
 ghost use Rattle.sb_gather.specs.Maps.{left_of, union, AnyKey};
 ghost use Rattle.sb_gather.specs.Steps.{StepBack, StepsBack};

@@ -2,7 +2,7 @@ ghost use Rattle.std.specs.Prelude.{◌≡◌, ◌<◌, ◌≤◌, ◌↔◌, �
 ghost use Rattle.std.specs.List.{insert};
 ghost use Rattle.std.specs.Vec.{vec_len, vec_capacity};
 ghost use Rattle.sb_gather.specs.Steps.{TopStepBack, StepsBack};
-ghost use Rattle.sb_gather.specs.Tops.{by_rank, placed, together, first_of_both, IsTop};
+ghost use Rattle.sb_gather.specs.Tops.{by_rank, placed, first_of_both, IsTop};
 
 use crate::entries::Steps;
 use crate::place::{Ordered, place_of};
