@@ -128,11 +128,11 @@ integer-fits (c ∷ bytes) =
       | true ↦ negative_fits (natural (2 ^ 63) bytes) (natural-spelled (2 ^ 63) bytes (omega arith))
       | false ↦ positive_fits (natural (2 ^ 63 - 1) (c ∷ bytes)) (natural-spelled (2 ^ 63 - 1) (c ∷ bytes) (omega arith))
     ] where
-  negative_fits : (o : Option ℕ) → IfSome o (IsSpelled (2 ^ 63) bytes) → IfSome (option_and_then negative o) (FitsSigned w64)
-  negative_fits None is = tt
-  negative_fits (Some zero) is = tt
-  negative_fits (Some (suc n)) is = omega (arith, is.1)
+      negative_fits : (o : Option ℕ) → IfSome o (IsSpelled (2 ^ 63) bytes) → IfSome (option_and_then negative o) (FitsSigned w64)
+      negative_fits None is = tt
+      negative_fits (Some zero) is = tt
+      negative_fits (Some (suc n)) is = omega (arith, is.1)
 
-  positive_fits : (o : Option ℕ) → IfSome o (IsSpelled (2 ^ 63 - 1) (c ∷ bytes)) → IfSome (option_map pos o) (FitsSigned w64)
-  positive_fits None is = tt
-  positive_fits (Some n) is = omega (arith, is.1)
+      positive_fits : (o : Option ℕ) → IfSome o (IsSpelled (2 ^ 63 - 1) (c ∷ bytes)) → IfSome (option_map pos o) (FitsSigned w64)
+      positive_fits None is = tt
+      positive_fits (Some n) is = omega (arith, is.1)

@@ -45,6 +45,6 @@ utf8_text items text value utf8 =
       | true ↦ λ is. text_at items items text value (utf8.1 (IsUtf8-from_is_utf8 items is)) refl
       | false ↦ λ other. absent items text utf8.0 other
     ] refl where
-  absent : (items : List ℕ) (text : Option (List ℕ)) → (IsSome text → IsUtf8 items) → is_utf8 items ≡ false → text ≡ None
-  absent items None utf8 other = refl
-  absent items (Some t) utf8 other = let is = is_utf8-from_IsUtf8 items (utf8 refl) in cc
+      absent : (items : List ℕ) (text : Option (List ℕ)) → (IsSome text → IsUtf8 items) → is_utf8 items ≡ false → text ≡ None
+      absent items None utf8 other = refl
+      absent items (Some t) utf8 other = let is = is_utf8-from_IsUtf8 items (utf8 refl) in cc
