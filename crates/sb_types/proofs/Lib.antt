@@ -1,5 +1,6 @@
 pub mod KeyReads
 pub mod Lists
+pub mod OrderCases
 pub mod OrderEqual
 pub mod TyViews
 pub mod ValBack

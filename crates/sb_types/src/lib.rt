@@ -12,7 +12,7 @@ mod values;
 mod writing;
 
 pub use copying::copy;
-pub use laws::{keys_have_own_texts, order_is_total, views_are_exact};
+pub use laws::{keys_have_own_texts, order_by_cases, order_is_total, views_are_exact};
 pub use order::compare;
 pub use reading::read_key;
 pub use types::{Field, Fields, Mono, Ty};
