@@ -4,3 +4,4 @@ pub mod Sends
 pub mod Causes
 pub mod Records
 pub mod Endings
+pub mod Words

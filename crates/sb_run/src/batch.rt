@@ -8,7 +8,8 @@ ghost use Rattle.sb_run.specs.Gathering.{ReadsProgram, SumsLog, SumsRecords, Sum
 
 use crate::emission::emissions;
 use crate::log::{LogError, LogRecord, read_log};
-use crate::program::{Program, read_program};
+use crate::form::read_program;
+use crate::program::Program;
 use crate::refusal::{Refusal, Which};
 use crate::totals::{Totals, totals};
 use sb_io::{Fetched, Shelf, ShelfError};
