@@ -1,5 +1,6 @@
-ghost use Rattle.std.specs.Prelude.{◌≡◌, ◌↔◌, [], length, IsTrue};
+ghost use Rattle.std.specs.Prelude.{◌≡◌, ◌↔◌, [], ◌++◌, length, take, IsTrue, IfOk, OnOk, OnErr};
 
+use crate::{Key, NoMemory};
 use std::alloc::Global;
 use std::marker::Model;
 
@@ -45,6 +46,15 @@ impl<T> Items<T> {
         items
     }
 
+    /// Takes the items out, in their room, and leaves none. No memory is taken.
+    pub fn take(&mut self) -> Vec<T>
+        ensures items { result.items ≡ self.old }
+        ensures none { self.new ≡ [] }
+    {
+        let alloc = *self.items.allocator();
+        std::mem::replace(&mut self.items, Vec::new(alloc))
+    }
+
     /// The items, lent.
     pub fn as_slice(&self) -> &[T]
         ensures { result.now ≡ self.now }
@@ -64,5 +74,38 @@ impl<T> Items<T> {
         ensures { IsTrue result ↔ (self.now ≡ []) }
     {
         self.items.is_empty()
+    }
+
+    /// Moves the items of `more` to the end. A refusal leaves the items as they were.
+    pub fn append(&mut self, more: Items<T>) -> Result<(), NoMemory>
+    where
+        T: Drop,
+        ensures ok { OnOk result (self.new ≡ self.old ++ more) }
+        ensures err { OnErr result (self.new ≡ self.old) }
+    {
+        let Items { mut items } = more;
+        self.items.append(&mut items)
+    }
+
+    /// Keeps the first items. No memory is taken.
+    pub fn truncate(&mut self, count: usize)
+    where
+        T: Drop,
+        ensures { self.new ≡ take count self.old }
+    {
+        self.items.truncate(count)
+    }
+}
+
+impl<K: Key> Items<K> {
+    /// A list of equal keys.
+    pub fn copy(&self, alloc: Global) -> Result<Items<K>, NoMemory>
+        ensures { IfOk result (λ items. items ≡ self.now) }
+    {
+        let mut items = Vec::with_capacity(alloc, self.items.len())?;
+        for key in &self.items {
+            items.push(key.copy(alloc)?)?;
+        }
+        Ok(Items { items })
     }
 }

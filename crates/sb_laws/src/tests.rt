@@ -145,11 +145,21 @@ fn a_refused_plus_is_passed_on(rt: HostRuntime) -> Result<(), Fail> {
 fn items_keys_and_undo(rt: HostRuntime) -> Result<(), Fail> {
     let alloc = rt.alloc();
     assert!(rt; Items::<u8>::new(alloc).is_empty());
-    let items = Items::from_vec(list(alloc, &[1, 2])?);
+    let mut items = Items::from_vec(list(alloc, &[1, 2, 3])?);
+    items.append(Items::from_vec(list(alloc, &[4])?))?;
+    assert_eq!(rt; items.len(), 4);
+    items.truncate(2);
     assert_eq!(rt; items.len(), 2);
     assert_eq!(rt; items.as_slice(), [1, 2].as_slice());
-    assert_eq!(rt; items.into_vec().as_slice(), [1, 2].as_slice());
+    assert_eq!(rt; items.take().as_slice(), [1, 2].as_slice());
+    assert_eq!(rt; items.into_vec().len(), 0);
     assert_eq!(rt; Key::copy(&-3_i64, alloc)?, -3);
+    let mut keys = Vec::new(alloc);
+    keys.push(-3_i64)?;
+    assert_eq!(rt;
+        Items::from_vec(keys).copy(alloc)?.as_slice(),
+        [-3].as_slice()
+    );
     let mut a = 1;
     let kept = Latest.plus_recorded(alloc, &mut a, 2)?;
     assert_eq!(rt; a, 2);

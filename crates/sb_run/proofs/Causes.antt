@@ -1,7 +1,5 @@
 -- The cause of a fault, seen from the whole call.
-use Rattle.std.proofs.Common.{◌≡◌, ◌≢◌, ℕ, ◌+◌, ◌-◌, ◌^◌, ◌≤◌, min, List, arith}
-use Rattle.sb_io.specs.Faults.{Rose}
-use Rattle.sb_io.specs.Shelf.{Content, Fetches}
+use Rattle.std.proofs.Common.{ℕ, ◌≤◌, List, arith}
 use Rattle.sb_run.specs.Gathering.{IsCaused, IsCausedAt}
 use Rattle.sb_run.specs.declared.refusal.Refusal.{Refusal}
 use Rattle.sb_run.specs.declared.refusal.Refusal.TheVariants.{Usage, Shelf, NoMemory, Program, Log}

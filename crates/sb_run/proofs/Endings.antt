@@ -1,5 +1,5 @@
 -- How a call ends, from what its steps answered.
-use Rattle.std.proofs.Common.{◌≡◌, ◌⊎◌, ℕ, List, Option, subst, sym, ap, ◌∙◌, refl}
+use Rattle.std.proofs.Common.{◌≡◌, ◌⊎◌, ℕ, List, Option, subst, sym, refl}
 use mathlib.Core.Logic.{inl, inr}
 use Rattle.sb_io.specs.Sink.{Appends}
 use Rattle.sb_run.specs.Answer.{Answer}

@@ -1,6 +1,6 @@
 -- A map to which emissions are added one by one has their folds.
-use Rattle.std.proofs.Common.{◌≡◌, ℕ, ℤ, Bool, true, false, cond, List, [], ◌∷◌, ◌++◌, map, filter, fold, Option, Some, None, Ordering, refl, sym, ap, ◌∙◌, subst, arith, append-nil}
-use Rattle.std.specs.BTreeMap.{BTreeMap, get, keys, is_at, insert_entry, Updates, IsOrdered}
+use Rattle.std.proofs.Common.{◌≡◌, ℕ, ℤ, Bool, true, false, cond, List, [], ◌∷◌, ◌++◌, map, filter, fold, Some, Ordering, refl, sym, ap, ◌∙◌, arith, append-nil}
+use Rattle.std.specs.BTreeMap.{get, is_at, insert_entry, Updates, IsOrdered}
 use Rattle.std.specs.BTreeSet.{insert_key}
 use Rattle.std.specs.Cmp.Lexicographic.{slice_cmp}
 use Rattle.std.specs.Map.{keys_of}
@@ -12,7 +12,6 @@ use Rattle.std.proofs.lemmas.Cmp.{same_from_slice_cmp, nat_list_cmp_total}
 use Rattle.std.proofs.lemmas.List.Sums.{fold-append}
 use Rattle.std.proofs.lemmas.Slice.Eq.{bytes_eq-Decides}
 use Rattle.sb_laws.specs.Sums.{sum_of, both_sums}
-use Rattle.sb_laws.specs.Folds.{fold_over}
 use Rattle.sb_laws.proofs.Sums.{sum_last}
 use Rattle.sb_run.specs.Fold.{Emission, of_key, fold_of, everywhere}
 use Rattle.sb_run.specs.Program.{plus}

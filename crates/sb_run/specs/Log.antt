@@ -1,5 +1,5 @@
 -- The log: which lines are good, and the records that they say.
-use Rattle.std.specs.Prelude.{ℕ, suc, ◌+◌, ◌-◌, ◌==◌, nat_lt, ℤ, int_lt, Bool, true, false, codes, List, [], ◌∷◌, length, Option, Some, None, Result, Ok, Err, option_map, if◌then◌else◌}
+use Rattle.std.specs.Prelude.{ℕ, ◌+◌, ◌-◌, ◌==◌, nat_lt, ℤ, int_lt, Bool, true, false, codes, List, [], ◌∷◌, length, Option, Some, None, Result, Ok, Err, option_map, if◌then◌else◌}
 use Rattle.std.specs.Str.{bytes_eq}
 use Rattle.sb_text.specs.Columns.{columns_of}
 use Rattle.sb_text.specs.Decimal.{integer}

@@ -5,7 +5,7 @@ use Rattle.std.specs.Fmt.{signed_decimal}
 use Rattle.sb_run.specs.Fold.{Emission}
 use Rattle.sb_run.specs.Log.{LogRecord}
 use Rattle.sb_run.specs.Report.{store_report}
-use Rattle.sb_run.specs.Schema.{Schema, Source}
+use Rattle.sb_run.specs.Schema.{Schema}
 use Rattle.sb_run.specs.Value.{Value, int, text, truth, value_text}
 use Rattle.sb_run.specs.declared.program.FieldType.{FieldType}
 

@@ -1,5 +1,5 @@
 -- What a log is read by: its sources, and the batches into which times fall.
-use Rattle.std.specs.Prelude.{ℕ, ◌+◌, ◌/◌, max, ℤ, pos, negsuc, ◌-ℤ◌, List}
+use Rattle.std.specs.Prelude.{ℕ, ◌/◌, ℤ, pos, negsuc, ◌-ℤ◌, List}
 use Rattle.sb_run.specs.declared.program.FieldType.{FieldType}
 
 -- a source's name and the types of its fields

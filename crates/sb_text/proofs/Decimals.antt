@@ -1,6 +1,6 @@
 -- A decimal that is written is read as the same number, and a text that is read as a number is its decimal.
-use Rattle.std.proofs.Common.{◌≡◌, ◌≢◌, ◌==◌, ℕ, zero, suc, ◌+◌, ◌-◌, ◌*◌, ◌/◌, ◌%◌, ◌^◌, ◌<◌, ◌≤◌, ℤ, pos, negsuc, Bool, true, false, cond, ◌&&◌, List, [], ◌∷◌, ◌++◌, Option, Some, None, refl, sym, ap, ◌∙◌, arith, length, get_or, eqb, rules, subst}
-use Rattle.std.specs.Prelude.{nat_le, nat_lt, option_and_then, option_map, FitsSigned, IfSome}
+use Rattle.std.proofs.Common.{◌≡◌, ◌≢◌, ℕ, zero, suc, ◌+◌, ◌-◌, ◌*◌, ◌/◌, ◌%◌, ◌^◌, ◌<◌, ◌≤◌, ℤ, pos, negsuc, true, false, cond, ◌&&◌, List, [], ◌∷◌, ◌++◌, Option, Some, None, refl, sym, ap, ◌∙◌, arith, length, get_or, eqb, rules, subst}
+use Rattle.std.specs.Prelude.{nat_le, option_and_then, option_map, FitsSigned, IfSome}
 use Rattle.std.specs.Int.{w64}
 use Rattle.std.specs.Char.{is_ascii_digit}
 use Rattle.std.specs.Str.{all_ascii_digits}
@@ -70,7 +70,7 @@ read_digits : (most m : ℕ) (ds : List ℕ) → m ≤ most → IfSome (number_a
 read_digits most m [] fits = (refl, refl, fits)
 read_digits most m (c ∷ ds) fits =
     elim (is_ascii_digit c) as (λ d. is_ascii_digit c ≡ d → IfSome (cond (d && nat_le (10 * m + (c - 48)) most) (number_after most (10 * m + (c - 48)) ds) None)
-      (λ n. ((d && all_ascii_digits ds) ≡ true) × (value_after (10 * m + (c - 48)) ds ≡ n) × (n ≤ most))) [
+    (λ n. ((d && all_ascii_digits ds) ≡ true) × (value_after (10 * m + (c - 48)) ds ≡ n) × (n ≤ most))) [
       | true ↦ λ digit. elim (nat_le (10 * m + (c - 48)) most) as (λ b. nat_le (10 * m + (c - 48)) most ≡ b → IfSome (cond b (number_after most (10 * m + (c - 48)) ds) None) (IsRead most (10 * m + (c - 48)) ds)) [
         | true ↦ λ below. read_digits most (10 * m + (c - 48)) ds (grind (arith, nat_tests))
         | false ↦ λ above. tt
@@ -98,9 +98,9 @@ natural-spelled most (c ∷ ds) small =
       | true ↦ λ is. alone c ds (grind (arith, nat_tests))
       | false ↦ λ other. spelled_of most c ds (number_after most 0 (c ∷ ds)) small (grind (arith, nat_tests)) (read_digits most 0 (c ∷ ds) (omega arith))
     ] refl where
-  alone : (c : ℕ) (ds : List ℕ) → c ≡ 48 → IfSome (zero_alone ds) (IsSpelled most (c ∷ ds))
-  alone c [] is = rw is (sym (decimal_digit 0 (omega arith)), omega arith)
-  alone c (d ∷ ds) is = tt
+      alone : (c : ℕ) (ds : List ℕ) → c ≡ 48 → IfSome (zero_alone ds) (IsSpelled most (c ∷ ds))
+      alone c [] is = rw is (sym (decimal_digit 0 (omega arith)), omega arith)
+      alone c (d ∷ ds) is = tt
 
 negative-spelled : (bytes : List ℕ) (o : Option ℕ) → IfSome o (IsSpelled (2 ^ 63) bytes) → IfSome (option_and_then negative o) (λ z. 45 ∷ bytes ≡ signed_decimal z)
 negative-spelled bytes None is = tt
@@ -119,3 +119,20 @@ integer-spelled (c ∷ bytes) =
           subst (λ b. IfSome (option_and_then negative (natural (2 ^ 63) bytes)) (λ z. b ∷ bytes ≡ signed_decimal z)) e (negative-spelled bytes (natural (2 ^ 63) bytes) (natural-spelled (2 ^ 63) bytes (omega arith)))
       | false ↦ λ other. positive-spelled (c ∷ bytes) (natural (2 ^ 63 - 1) (c ∷ bytes)) (natural-spelled (2 ^ 63 - 1) (c ∷ bytes) (omega arith))
     ] refl
+
+-- a number that is read is one of an i64
+pub integer-fits : (bytes : List ℕ) → IfSome (integer bytes) (FitsSigned w64)
+integer-fits [] = tt
+integer-fits (c ∷ bytes) =
+    elim (eqb c 45) as (λ b. IfSome (cond b (option_and_then negative (natural (2 ^ 63) bytes)) (option_map pos (natural (2 ^ 63 - 1) (c ∷ bytes)))) (FitsSigned w64)) [
+      | true ↦ negative_fits (natural (2 ^ 63) bytes) (natural-spelled (2 ^ 63) bytes (omega arith))
+      | false ↦ positive_fits (natural (2 ^ 63 - 1) (c ∷ bytes)) (natural-spelled (2 ^ 63 - 1) (c ∷ bytes) (omega arith))
+    ] where
+      negative_fits : (o : Option ℕ) → IfSome o (IsSpelled (2 ^ 63) bytes) → IfSome (option_and_then negative o) (FitsSigned w64)
+      negative_fits None is = tt
+      negative_fits (Some zero) is = tt
+      negative_fits (Some (suc n)) is = omega (arith, is.1)
+
+      positive_fits : (o : Option ℕ) → IfSome o (IsSpelled (2 ^ 63 - 1) (c ∷ bytes)) → IfSome (option_map pos o) (FitsSigned w64)
+      positive_fits None is = tt
+      positive_fits (Some n) is = omega (arith, is.1)

@@ -1,6 +1,6 @@
 -- A text that is escaped is unescaped to the same text, and what is unescaped is its text's escaped form.
-use Rattle.std.proofs.Common.{◌≡◌, ℕ, ◌+◌, ◌-◌, ◌*◌, ◌/◌, ◌%◌, ◌<◌, Bool, true, false, cond, ◌&&◌, ◌||◌, not, List, [], ◌∷◌, ◌++◌, Option, Some, None, refl, sym, ap, ◌∙◌, subst, arith, eqb, length}
-use Rattle.std.specs.Prelude.{IfSome, option_map, option_and_then, nat_le, nat_lt}
+use Rattle.std.proofs.Common.{◌≡◌, ℕ, ◌+◌, ◌-◌, ◌*◌, ◌/◌, ◌%◌, ◌<◌, true, false, cond, ◌&&◌, List, [], ◌∷◌, ◌++◌, Option, Some, None, refl, ap, ◌∙◌, subst, arith, eqb}
+use Rattle.std.specs.Prelude.{IfSome, option_and_then, nat_le, nat_lt}
 use Rattle.std.specs.Char.{is_ascii_digit}
 use Rattle.std.specs.List.{flat_map}
 use Rattle.std.proofs.lemmas.Bool.Decides.{nat_tests}
@@ -47,7 +47,7 @@ several : (bytes : List ℕ) (b : ℕ) (t : List ℕ) → bytes_unescaped bytes 
 several [] b t is = cc
 several (c ∷ []) b t is =
     elim (eqb c 37) as (λ a. cond a (rest_unescaped []) (cond (is_plain c) (onto_text (Some c) (bytes_unescaped [])) None) ≡ Some (b ∷ t)
-      → cond a (Some []) (cond a (rest_unescaped []) (cond (is_plain c) (onto_text (Some c) (bytes_unescaped [])) None)) ≡ Some (b ∷ t)) [
+    → cond a (Some []) (cond a (rest_unescaped []) (cond (is_plain c) (onto_text (Some c) (bytes_unescaped [])) None)) ≡ Some (b ∷ t)) [
       | true ↦ λ h. cc
       | false ↦ λ h. h
     ] is
@@ -116,7 +116,7 @@ mutual
   rest-spelled (high ∷ []) = tt
   rest-spelled (high ∷ low ∷ bytes) =
       onto_spelled (37 ∷ high ∷ low ∷ []) bytes (after_percent high low) (bytes_unescaped bytes)
-        (percent-spelled high low (hex_value high) (hex_value low) (hex_value-spelled high) (hex_value-spelled low)) (bytes-spelled bytes)
+      (percent-spelled high low (hex_value high) (hex_value low) (hex_value-spelled high) (hex_value-spelled low)) (bytes-spelled bytes)
 
 whole : (b : ℕ) (bytes : List ℕ) (o : Option (List ℕ)) → IfSome o (λ t. b ∷ bytes ≡ flat_map escaped_byte t) → IfSome o (λ t. b ∷ bytes ≡ escaped t)
 whole b bytes None is = tt

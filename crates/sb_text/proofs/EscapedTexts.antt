@@ -1,11 +1,11 @@
 -- The escaped form of a text is a text.
-use Rattle.std.proofs.Common.{◌≡◌, ℕ, ◌+◌, ◌/◌, ◌%◌, ◌<◌, ◌≤◌, Bool, true, false, cond, ◌&&◌, List, [], ◌∷◌, ◌++◌, arith, refl, ap, subst, sym, ◌∙◌, IsUtf8, ltb, append-nil, length}
+use Rattle.std.proofs.Common.{◌≡◌, ℕ, ◌+◌, ◌/◌, ◌%◌, ◌<◌, ◌≤◌, Bool, true, false, cond, ◌&&◌, List, [], ◌∷◌, arith, refl, subst, IsUtf8, ltb, append-nil, length}
 use Rattle.std.specs.List.{AllByRecursion, flat_map, list_all}
 use Rattle.std.specs.Prelude.{nat_lt}
 use lib.Utf8.{scalar, scalars, encode, encodes}
 use Rattle.std.proofs.lemmas.Bool.Decides.{nat_tests}
 use Rattle.std.proofs.lemmas.List.Concat.{flat_map-append}
-use Rattle.std.proofs.lemmas.Str.{IsUtf8-append, IsUtf8-nil, IsUtf8-encode}
+use Rattle.std.proofs.lemmas.Str.{IsUtf8-append, IsUtf8-nil}
 use Rattle.sb_text.specs.Escape.{hex_digit, is_plain, escaped_byte, escaped}
 
 both_true : (a b : Bool) → (a && b) ≡ true → (a ≡ true) × (b ≡ true)
@@ -46,10 +46,10 @@ encoded_high c high =
     (cond (ltb c 65536) ((224 + c / 4096) ∷ (128 + c / 64 % 64) ∷ (128 + c % 64) ∷ []) ((240 + c / 262144) ∷ (128 + c / 4096 % 64) ∷ (128 + c / 64 % 64) ∷ (128 + c % 64) ∷ [])))) [
       | true ↦ (omega arith, (omega arith, tt))
       | false ↦ elim (ltb c 65536) as (λ three. AllByRecursion (λ b. 128 ≤ b)
-      (cond three ((224 + c / 4096) ∷ (128 + c / 64 % 64) ∷ (128 + c % 64) ∷ []) ((240 + c / 262144) ∷ (128 + c / 4096 % 64) ∷ (128 + c / 64 % 64) ∷ (128 + c % 64) ∷ []))) [
-        | true ↦ (omega arith, (omega arith, (omega arith, tt)))
-        | false ↦ (omega arith, (omega arith, (omega arith, (omega arith, tt))))
-      ]
+          (cond three ((224 + c / 4096) ∷ (128 + c / 64 % 64) ∷ (128 + c % 64) ∷ []) ((240 + c / 262144) ∷ (128 + c / 4096 % 64) ∷ (128 + c / 64 % 64) ∷ (128 + c % 64) ∷ []))) [
+            | true ↦ (omega arith, (omega arith, (omega arith, tt)))
+            | false ↦ (omega arith, (omega arith, (omega arith, (omega arith, tt))))
+          ]
     ])
 
 escaped_code : (c : ℕ) → scalar c ≡ true → IsUtf8 (flat_map escaped_byte (encode c))

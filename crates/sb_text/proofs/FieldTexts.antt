@@ -1,5 +1,5 @@
 -- What `from_bytes` answers is the text that the bytes are.
-use Rattle.std.proofs.Common.{◌≡◌, ◌↔◌, List, ℕ, Some, None, IsUtf8, IsSome, IfSome, true, false, cond, refl, sym, ap, ◌∙◌}
+use Rattle.std.proofs.Common.{◌≡◌, ◌↔◌, List, ℕ, Some, None, IsUtf8, IsSome, IfSome, true, false, cond, refl, ap}
 use Rattle.std.specs.declared.option.Option.{Option}
 use Rattle.std.specs.Str.{is_utf8}
 use Rattle.std.proofs.lemmas.Str.{IsUtf8-from_is_utf8, is_utf8-from_IsUtf8}

@@ -1,12 +1,12 @@
 -- The text of a set is read as the set, and a text that is read is the text of its set.
-use Rattle.std.proofs.Common.{◌≡◌, ◌≢◌, ℕ, zero, suc, ◌+◌, ◌-◌, ◌*◌, ◌/◌, ◌%◌, ◌^◌, ◌<◌, ◌≤◌, Bool, true, false, cond, List, [], ◌∷◌, ◌++◌, map, Option, Some, None, length, refl, sym, ap, subst, ◌∙◌, arith, eqb, append_assoc}
+use Rattle.std.proofs.Common.{◌≡◌, ℕ, zero, suc, ◌+◌, ◌-◌, ◌%◌, ◌^◌, ◌<◌, ◌≤◌, true, false, cond, List, [], ◌∷◌, ◌++◌, map, Option, Some, None, length, refl, sym, ap, subst, ◌∙◌, arith, eqb}
 use Rattle.std.specs.Prelude.{nat_le, decimal, IfSome, option_map, option_and_then, MatchOption, codes, bytes_eq}
 use Rattle.std.specs.Borrow.{Bor}
 use Rattle.std.specs.List.{AllByRecursion, range_with_len}
 use Rattle.std.proofs.lemmas.Bool.Decides.{nat_tests}
 use Rattle.sb_text.specs.Columns.{Lacks, pieces, onto_piece}
 use Rattle.sb_text.specs.Decimal.{natural}
-use Rattle.sb_text.specs.Ranges.{Range, IsRising, IsSet, onto_ranges, ranges_of, range_text, ranges_joined, ranges_text}
+use Rattle.sb_text.specs.Ranges.{Range, IsSet, onto_ranges, ranges_of, range_text, ranges_joined, ranges_text}
 use Rattle.sb_text.specs.RangesRead.{most, ordered_range, cut, range_read, numbers_in, numbers_from, set_read}
 use Rattle.std.proofs.lemmas.Option.{IfSome_then}
 use Rattle.std.proofs.lemmas.Slice.Eq.{bytes_eq-Decides}
@@ -86,7 +86,7 @@ range_read-spelled text = at_parts (cut 45 text) (cut-spelled 45 text) where
   at_parts None is = tt
   at_parts (Some parts) is =
       range_of_numbers text parts.0 parts.1 is (natural most parts.0) (natural most parts.1)
-        (natural-spelled most parts.0 (omega arith)) (natural-spelled most parts.1 (omega arith))
+      (natural-spelled most parts.0 (omega arith)) (natural-spelled most parts.1 (omega arith))
 
 lacks_append : (separator : ℕ) (xs ys : List ℕ) → Lacks separator xs → Lacks separator ys → Lacks separator (xs ++ ys)
 lacks_append separator [] ys lacks also = also
@@ -102,9 +102,12 @@ lacks-decimal separator n low small =
 range_read-text : (low high : ℕ) → IsRange (low, high) → range_read (range_text (low, high)) ≡ Some (low, high)
 range_read-text low high is =
     let ordered : nat_le low high ≡ true = grind (arith, nat_tests, is.0) in
-    rw (cut-split 45 (decimal low) (decimal high) (lacks-decimal 45 low (omega arith) (omega (arith, is.0, is.1))),
-        natural-decimal most low (omega (arith, is.0, is.1)) (omega (arith, is.0, is.1)),
-        natural-decimal most high (omega (arith, is.1)) (omega (arith, is.1)), ordered) refl
+    rw (
+      cut-split 45 (decimal low) (decimal high) (lacks-decimal 45 low (omega arith) (omega (arith, is.0, is.1))),
+      natural-decimal most low (omega (arith, is.0, is.1)) (omega (arith, is.0, is.1)),
+      natural-decimal most high (omega (arith, is.1)) (omega (arith, is.1)),
+      ordered,
+    ) refl
 
 -- a run of numbers
 pub run-more : (low end : ℕ) → low < end → range_with_len low (end - low) ≡ low ∷ range_with_len (low + 1) (end - (low + 1))
@@ -144,7 +147,7 @@ run_ranges low zero (n ∷ numbers) all =
     let other : eqb n (low + 1) ≡ false = grind (arith, nat_tests, all.0) in
     let e : low ≡ low + 0 = omega arith in
     subst (λ ranges. onto_ranges low ranges ≡ (low, low + 0) ∷ ranges) (sym (first_range n (ranges_of numbers)))
-      (rw other (ap (λ high. (low, high) ∷ (n, last_with n (ranges_of numbers)) ∷ after_with n (ranges_of numbers)) e))
+    (rw other (ap (λ high. (low, high) ∷ (n, last_with n (ranges_of numbers)) ∷ after_with n (ranges_of numbers)) e))
 run_ranges low (suc k) numbers all =
     let same : eqb (low + 1) (low + 1) ≡ true = grind (arith, nat_tests) in
     let e : low + 1 + k ≡ low + suc k = omega arith in
@@ -164,10 +167,11 @@ read_front : (least : ℕ) (piece : List ℕ) (pieces : List (List ℕ)) (range 
     → IfSome numbers (AreRead (range.1 + 2) pieces) → IfSome (option_map (λ numbers. numbers_in range ++ numbers) numbers) (AreRead least (piece ∷ pieces))
 read_front least piece pieces range is le None read = tt
 read_front least piece pieces range is le (Some numbers) read =
-    let end : range.0 + (range.1 + 1 - range.0) ≡ range.1 + 1 = omega (arith, is.1.0) in
-    ( ap (λ xs. xs ∷ pieces) is.0 ∙ (ap (λ ps. range_text range ∷ ps) read.0 ∙ ap (map range_text) (sym (range_front range numbers is.1 read.2)))
-    , run_set range.0 (range.1 + 1 - range.0) numbers (omega (arith, end, is.1.1)) (less_least (range.0 + (range.1 + 1 - range.0)) (range.1 + 2) numbers (omega (arith, end)) read.2) read.1
-    , run_least least range.0 (range.1 + 1 - range.0) numbers le (less_least least (range.1 + 2) numbers (omega (arith, le, is.1.0)) read.2) )
+    let end : range.0 + (range.1 + 1 - range.0) ≡ range.1 + 1 = omega (arith, is.1.0) in (
+      ap (λ xs. xs ∷ pieces) is.0 ∙ (ap (λ ps. range_text range ∷ ps) read.0 ∙ ap (map range_text) (sym (range_front range numbers is.1 read.2))),
+      run_set range.0 (range.1 + 1 - range.0) numbers (omega (arith, end, is.1.1)) (less_least (range.0 + (range.1 + 1 - range.0)) (range.1 + 2) numbers (omega (arith, end)) read.2) read.1,
+      run_least least range.0 (range.1 + 1 - range.0) numbers le (less_least least (range.1 + 2) numbers (omega (arith, le, is.1.0)) read.2),
+    )
 
 numbers_from-spelled : (least : ℕ) (pieces : List (List ℕ)) → IfSome (numbers_from least pieces) (AreRead least pieces)
 numbers_from-spelled least [] = (refl, record { rising = tt; below = tt }, tt)
@@ -234,9 +238,9 @@ onto_numbers least n (m ∷ numbers) set le rest =
     let above : AtLeast (m + 1) numbers = least_above m numbers set.rising.1.0 in
     let all : AllByRecursion IsRange ((m, last_with m (ranges_of numbers)) ∷ after_with m (ranges_of numbers)) = rw first at (all_ranges (m ∷ numbers) set.below.1) in
     let next : numbers_from m (map range_text ((m, last_with m (ranges_of numbers)) ∷ after_with m (ranges_of numbers))) ≡ Some (m ∷ numbers) =
-        rw first at (rest m (omega arith, less_least m (m + 1) numbers (omega arith) above)) in
+    rw first at (rest m (omega arith, less_least m (m + 1) numbers (omega arith) above)) in
     rw first (onto_read least n m (last_with m (ranges_of numbers)) numbers (after_with m (ranges_of numbers)) le set.rising.0.0 all.0 set.below.0 next
-      (λ gap. rw first at (rest (n + 2) (gap, less_least (n + 2) (m + 1) numbers (omega (arith, gap)) above))))
+    (λ gap. rw first at (rest (n + 2) (gap, less_least (n + 2) (m + 1) numbers (omega (arith, gap)) above))))
 
 pub numbers_from-ranges : (numbers : List ℕ) → IsSet numbers → AreReadFrom numbers
 numbers_from-ranges [] set = λ least all. refl
@@ -286,7 +290,7 @@ text_of_pieces bytes (range ∷ ranges) is = sym (joined-pieces bytes) ∙ (ap j
 lacks_range : (range : Range) → IsRange range → Lacks 44 (range_text range)
 lacks_range range is =
     lacks_append 44 (decimal range.0) (45 ∷ decimal range.1) (lacks-decimal 44 range.0 (omega arith) (omega (arith, is.0, is.1)))
-      ((λ no. cc), lacks-decimal 44 range.1 (omega arith) (omega (arith, is.1)))
+    ((λ no. cc), lacks-decimal 44 range.1 (omega arith) (omega (arith, is.1)))
 
 pieces-ranges : (range : Range) (ranges : List Range) → AllByRecursion IsRange (range ∷ ranges) → pieces 44 (ranges_joined (range ∷ ranges)) ≡ map range_text (range ∷ ranges)
 pieces-ranges range [] all = pieces-whole 44 (range_text range) (lacks_range range all.0)
@@ -307,7 +311,7 @@ pub set_read-text : (numbers : List ℕ) → IsSet numbers → set_read (ranges_
 set_read-text [] set = refl
 set_read-text (n ∷ numbers) set =
     let read : numbers_from 0 (pieces 44 (ranges_text (n ∷ numbers))) ≡ Some (n ∷ numbers) =
-        ap (numbers_from 0) (pieces-set n numbers set) ∙ numbers_from-ranges (n ∷ numbers) set 0 (omega arith, less_least 0 (n + 1) numbers (omega arith) (least_above n numbers set.rising.0)) in
+    ap (numbers_from 0) (pieces-set n numbers set) ∙ numbers_from-ranges (n ∷ numbers) set 0 (omega arith, less_least 0 (n + 1) numbers (omega arith) (least_above n numbers set.rising.0)) in
     elim (bytes_eq (ranges_text (n ∷ numbers)) (codes "none")) as (λ b. bytes_eq (ranges_text (n ∷ numbers)) (codes "none") ≡ b → cond b (Some []) (numbers_from 0 (pieces 44 (ranges_text (n ∷ numbers)))) ≡ Some (n ∷ numbers)) [
       | true ↦ λ is.
           let none : numbers_from 0 (pieces 44 (ranges_text (n ∷ numbers))) ≡ None = ap (λ text. numbers_from 0 (pieces 44 text)) (same_bytes (ranges_text (n ∷ numbers)) (codes "none") is) in

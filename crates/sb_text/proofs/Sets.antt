@@ -1,5 +1,5 @@
 -- Rising lists: a number put into one, and the union of two.
-use Rattle.std.proofs.Common.{◌≡◌, ℕ, zero, suc, ◌+◌, ◌-◌, ◌^◌, ◌<◌, ◌≤◌, true, false, cond, List, [], ◌∷◌, ◌++◌, length, drop, get_or, insert, Contains, IsTrue, Ok, Err, ◌↔◌, inl, inr, ◌⊎◌, append-nil, take, refl, sym, ap, subst, ◌∙◌, arith, eqb}
+use Rattle.std.proofs.Common.{◌≡◌, ℕ, zero, suc, ◌-◌, ◌^◌, ◌<◌, ◌≤◌, true, false, cond, List, [], ◌∷◌, ◌++◌, length, drop, get_or, insert, Contains, IsTrue, Ok, Err, ◌↔◌, inl, inr, ◌⊎◌, append-nil, take, refl, sym, ap, subst, ◌∙◌, arith, eqb}
 use Rattle.std.specs.Prelude.{nat_lt, is_ok, Result}
 use Rattle.std.specs.Ordering.{nat_cmp}
 use Rattle.std.specs.List.Sorted.{IsBinarySearchResult}
@@ -142,8 +142,8 @@ rising_rest (x ∷ xs) rising = rising.1
 pub put-last : (numbers : List ℕ) (n : ℕ) → IsRising numbers → get_or numbers (length numbers - 1) 0 < n → put n numbers ≡ insert numbers (length numbers) n
 put-last numbers n rising above =
     put-between numbers n (length numbers) (omega arith)
-      (λ k h. let le = rising_at numbers rising k (length numbers - 1) (omega arith) (omega arith) in omega (arith, le, above))
-      (λ k h within. absurd (omega arith))
+    (λ k h. let le = rising_at numbers rising k (length numbers - 1) (omega arith) (omega arith) in omega (arith, le, above))
+    (λ k h within. absurd (omega arith))
 
 -- where one of two lists is empty, their union is one after the other
 pub union-ended : (both left right all : List ℕ) → IsRising right → (length left ≡ 0) ⊎ (length right ≡ 0) → both ++ union left right ≡ all → (both ++ left) ++ right ≡ all
@@ -163,10 +163,10 @@ Contains-searched numbers n (Ok i) rising found =
 Contains-searched numbers n (Err i) rising found =
     let at = searched numbers n (Err i) found (rising_at numbers rising) in
     (λ no. cc, λ has. absurd (nowhere has.0 has.1 has.2 at.1 at.2)) where
-  nowhere : (k : ℕ) → k < length numbers → get_or numbers k n ≡ n → ((k : ℕ) → k < i → get_or numbers k 0 < n) → ((k : ℕ) → i ≤ k → k < length numbers → n < get_or numbers k 0) → ⊥
-  nowhere k within is low high =
-      let same : get_or numbers k 0 ≡ n = get_or_default numbers k 0 n within ∙ is in
-      elim (nat_lt k i) as (λ b. nat_lt k i ≡ b → ⊥) [
-        | true ↦ λ before. let less : k < i = grind (arith, nat_tests) in let h = low k less in absurd (omega (arith, h, same))
-        | false ↦ λ after. let least : i ≤ k = grind (arith, nat_tests) in let h = high k least within in absurd (omega (arith, h, same))
-      ] refl
+      nowhere : (k : ℕ) → k < length numbers → get_or numbers k n ≡ n → ((k : ℕ) → k < i → get_or numbers k 0 < n) → ((k : ℕ) → i ≤ k → k < length numbers → n < get_or numbers k 0) → ⊥
+      nowhere k within is low high =
+          let same : get_or numbers k 0 ≡ n = get_or_default numbers k 0 n within ∙ is in
+          elim (nat_lt k i) as (λ b. nat_lt k i ≡ b → ⊥) [
+            | true ↦ λ before. let less : k < i = grind (arith, nat_tests) in let h = low k less in absurd (omega (arith, h, same))
+            | false ↦ λ after. let least : i ≤ k = grind (arith, nat_tests) in let h = high k least within in absurd (omega (arith, h, same))
+          ] refl

@@ -1,6 +1,8 @@
 -- From a function that reads the bytes of a text in some form to the text that a call answers.
-use Rattle.std.proofs.Common.{◌≡◌, ℕ, List, [], ◌∷◌, ◌++◌, Option, Some, None, refl, sym, ap, ◌∙◌, IsUtf8, append_assoc}
-use Rattle.std.specs.Prelude.{IfSome, IsSome, option_map}
+use Rattle.std.proofs.Common.{◌≡◌, ◌↔◌, true, false, cond, ℕ, List, [], ◌∷◌, ◌++◌, Option, Some, None, refl, sym, ap, ◌∙◌, IsUtf8, append_assoc}
+use Rattle.std.specs.Str.{is_utf8}
+use Rattle.std.proofs.lemmas.Str.{IsUtf8-from_is_utf8, is_utf8-from_IsUtf8}
+use Rattle.std.specs.Prelude.{if◌then◌else◌, IfSome, IsSome, option_map}
 use Rattle.sb_text.specs.Field.{onto_text}
 
 spelled_at : (form : List ℕ → List ℕ) (bytes items : List ℕ) (text : Option (List ℕ)) → bytes ≡ form items
@@ -34,3 +36,15 @@ pub onto_moved : (text : List ℕ) (b : ℕ) (rest : Option (List ℕ))
     → option_map (λ bytes. (text ++ b ∷ []) ++ bytes) rest ≡ option_map (λ bytes. text ++ bytes) (onto_text (Some b) rest)
 onto_moved text b None = refl
 onto_moved text b (Some bytes) = ap Some (append_assoc text (b ∷ []) bytes)
+
+-- the text of bytes that are UTF-8
+pub utf8_text : (items : List ℕ) (text : Option (List ℕ)) → IfSome text (λ t. t ≡ items) → (IsSome text ↔ IsUtf8 items)
+    → text ≡ (if is_utf8 items then Some items else None)
+utf8_text items text value utf8 =
+    elim (is_utf8 items) as (λ b. is_utf8 items ≡ b → text ≡ cond b (Some items) None) [
+      | true ↦ λ is. text_at items items text value (utf8.1 (IsUtf8-from_is_utf8 items is)) refl
+      | false ↦ λ other. absent items text utf8.0 other
+    ] refl where
+      absent : (items : List ℕ) (text : Option (List ℕ)) → (IsSome text → IsUtf8 items) → is_utf8 items ≡ false → text ≡ None
+      absent items None utf8 other = refl
+      absent items (Some t) utf8 other = let is = is_utf8-from_IsUtf8 items (utf8 refl) in cc

@@ -1,9 +1,8 @@
 -- The first separator of a text parts its lines and its pieces.
-use Rattle.std.proofs.Common.{◌≡◌, ◌≢◌, ℕ, ◌+◌, ◌<◌, List, [], ◌∷◌, ◌++◌, length, Some, true, false, arith, refl, eqb, cond, filter, ◌==◌, ◌∙◌}
+use Rattle.std.proofs.Common.{◌≡◌, ℕ, ◌+◌, ◌<◌, List, [], ◌∷◌, ◌++◌, length, Some, true, false, arith, refl, eqb, cond, filter, ◌==◌, ◌∙◌}
 use Rattle.std.specs.Iterator.{MakesProgress, item_count}
-use Rattle.std.specs.List.{AllByRecursion}
 use Rattle.std.proofs.lemmas.Bool.Decides.{nat_tests}
-use Rattle.sb_text.specs.Lines.{Line, lines_from, onto_first}
+use Rattle.sb_text.specs.Lines.{lines_from}
 use Rattle.sb_text.specs.Columns.{Lacks, pieces, onto_piece}
 
 pub pieces-split : (separator : ℕ) (word rest : List ℕ) → Lacks separator word → pieces separator (word ++ separator ∷ rest) ≡ word ∷ pieces separator rest

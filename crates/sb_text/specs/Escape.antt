@@ -2,6 +2,7 @@
 use Rattle.std.specs.Prelude.{ℕ, ◌+◌, ◌-◌, ◌*◌, ◌/◌, ◌%◌, Bool, ◌&&◌, ◌||◌, ◌==◌, nat_lt, nat_le, not, List, [], ◌∷◌, Option, Some, None, option_and_then, if◌then◌else◌}
 use Rattle.std.specs.Char.{is_ascii_digit}
 use Rattle.std.specs.List.{flat_map}
+use Rattle.std.specs.Str.{is_utf8}
 use Rattle.sb_text.specs.Field.{onto_text}
 
 -- an upper-case hexadecimal digit
@@ -50,3 +51,7 @@ abbrev pub unescaped : List ℕ → Option (List ℕ)
 unescaped [] = None
 unescaped (b ∷ []) = if b == 37 then Some [] else bytes_unescaped (b ∷ [])
 unescaped (b ∷ c ∷ bytes) = bytes_unescaped (b ∷ c ∷ bytes)
+
+-- the text that an escaped form spells: none where its bytes aren't UTF-8
+abbrev pub text_unescaped : List ℕ → Option (List ℕ)
+text_unescaped bytes = option_and_then (λ t. if is_utf8 t then Some t else None) (unescaped bytes)

@@ -1,5 +1,5 @@
 ghost use Rattle.std.specs.Prelude.{◌≡◌, ℕ, ◌<◌, List, ◌++◌, Some, None, IsUtf8, OnOk, OnErr, IfOk, IfSome, IfNone, MatchOption, length, take, option_map};
-ghost use Rattle.sb_text.specs.Escape.{is_plain, hex_digit, escaped_byte, escaped, hex_value, byte_of_digits, after_percent, bytes_unescaped, unescaped};
+ghost use Rattle.sb_text.specs.Escape.{is_plain, hex_digit, escaped_byte, escaped, hex_value, byte_of_digits, after_percent, bytes_unescaped, unescaped, text_unescaped};
 ghost use Rattle.sb_text.specs.Field.{onto_text};
 
 use crate::{NoMemory, Text};
@@ -23,6 +23,7 @@ pub fn escape(_alloc: Global, out: &mut Vec<u8>, bytes: &[u8]) -> Result<(), NoM
 
 /// The text that an escaped form spells; `None` exactly where the bytes are no text's escaped form.
 pub fn unescape(alloc: Global, bytes: &[u8]) -> Result<Option<Text>, NoMemory>
+    ensures value { IfOk result (λ text. text ≡ text_unescaped bytes.now) }
     ensures spelled { IfOk result (λ text. IfSome text (λ t. IsUtf8 t × (bytes.now ≡ escaped t))) }
     ensures every { IfOk result (λ text. (t : List ℕ) → IsUtf8 t → bytes.now ≡ escaped t → text ≡ Some t) }
 {
@@ -74,7 +75,11 @@ fn meant_after_percent(high: u8, low: u8) -> Option<u8>
     ensures { result ≡ after_percent high low }
 {
     let byte = 16 * value_of_hex(high)? + value_of_hex(low)?;
-    if is_plain_byte(byte) { None } else { Some(byte) }
+    if is_plain_byte(byte) {
+        None
+    } else {
+        Some(byte)
+    }
 }
 
 fn value_of_hex(digit: u8) -> Option<u8>
@@ -128,5 +133,9 @@ fn hex(digit: u8) -> u8
     requires { digit < 16 }
     ensures { result ≡ hex_digit digit }
 {
-    if digit < 10 { b'0' + digit } else { b'A' - 10 + digit }
+    if digit < 10 {
+        b'0' + digit
+    } else {
+        b'A' - 10 + digit
+    }
 }

@@ -9,6 +9,8 @@ mod lines;
 mod printed;
 mod ranges;
 mod splitting;
+#[cfg(test)]
+mod tests;
 mod text;
 
 pub use columns::Columns;

@@ -1,4 +1,4 @@
-use Rattle.std.proofs.Common.{◌≡◌, ◌≤◌, length, true}
+use Rattle.std.proofs.Common.{◌≡◌, ◌≤◌, length}
 use Rattle.sb_run.specs.Log.{records_of, log_of}
 use Rattle.sb_run.specs.Views.{schema_view, records_view, kept_before}
 use Rattle.sb_run.proofs.log.read_log.Given as goal

@@ -1,4 +1,4 @@
-use Rattle.std.proofs.Common.{◌≤◌, ◌++◌, arith, rules, FitsSigned, w64, to_z-of_z}
+use Rattle.std.proofs.Common.{arith, rules, FitsSigned, w64, to_z-of_z}
 use Rattle.std.specs.Fmt.{signed_decimal}
 use Rattle.std.specs.List.{flat_map}
 use Rattle.sb_run.specs.Report.{row_text}

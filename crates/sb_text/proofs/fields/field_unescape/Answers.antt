@@ -14,13 +14,13 @@ pub returns-in-Some-clause-spelled : goal.returns-in-Some-clause-spelled
 returns-in-Some-clause-spelled c =
     let reads : Some c.in-Some.text.items ≡ field_unescaped c.args.bytes.now = rw c.in-Some.is at c.in_ok-text.ensures in
     spelled_by field_escaped field_unescaped c.args.bytes.now c.in-Some.text.items c.from_bytes.result reads (field_unescaped-spelled c.args.bytes.now)
-      c.from_bytes.ensures.value c.from_bytes.ensures.utf8.0
+    c.from_bytes.ensures.value c.from_bytes.ensures.utf8.0
 
 pub returns-in-Some-clause-every : goal.returns-in-Some-clause-every
 returns-in-Some-clause-every c = λ t is_utf8 is.
     let reads : Some c.in-Some.text.items ≡ field_unescaped c.args.bytes.now = rw c.in-Some.is at c.in_ok-text.ensures in
     reads_every field_escaped field_unescaped c.args.bytes.now c.in-Some.text.items c.from_bytes.result reads
-      c.from_bytes.ensures.value c.from_bytes.ensures.utf8.1 t is_utf8 is (field_unescaped-escaped t)
+    c.from_bytes.ensures.value c.from_bytes.ensures.utf8.1 t is_utf8 is (field_unescaped-escaped t)
 
 pub returns-in-None-clause-every : goal.returns-in-None-clause-every
 returns-in-None-clause-every c = λ t is_utf8 is.

@@ -9,5 +9,5 @@ loop-number-preserved c =
     let done = c.loop-number.numbers.items in
     let next = c.loop-number.number in
     rw c.in_ok-push.ensures.items
-      (append_assoc done (next ∷ []) (range_with_len (next + 1) (c.args.high + 1 - (next + 1)))
-       ∙ (ap (λ rest. done ++ rest) (sym (run-more next (c.args.high + 1) (grind (arith, nat_tests, c.loop-number-test.true)))) ∙ c.loop-number.invariant))
+    (append_assoc done (next ∷ []) (range_with_len (next + 1) (c.args.high + 1 - (next + 1)))
+    ∙ (ap (λ rest. done ++ rest) (sym (run-more next (c.args.high + 1) (grind (arith, nat_tests, c.loop-number-test.true)))) ∙ c.loop-number.invariant))

@@ -1,4 +1,4 @@
-use Rattle.std.proofs.Common.{◌≡◌, ◌≤◌, ◌^◌, ◌+◌, ◌++◌, length}
+use Rattle.std.proofs.Common.{◌≡◌, ◌≤◌, ◌^◌, ◌+◌, ◌++◌}
 use Rattle.std.specs.Option.{option_map}
 use Rattle.sb_text.specs.Columns.{pieces}
 use Rattle.sb_text.specs.RangesRead.{numbers_from, pieces_left}

@@ -1,5 +1,4 @@
-use Rattle.std.proofs.Common.{sym, ◌∙◌}
-use Rattle.sb_text.specs.Ranges.{IsSet}
+use Rattle.std.proofs.Common.{sym}
 use Rattle.sb_text.proofs.Sets.{set_put}
 use Rattle.sb_text.proofs.ranges.Ranges.insert.Goals as goal
 

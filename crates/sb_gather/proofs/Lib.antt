@@ -1,0 +1,4 @@
+pub mod Cut
+pub mod Rings
+pub mod Search
+pub mod Undoing

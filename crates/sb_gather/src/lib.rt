@@ -1,0 +1,24 @@
+//! Pairs, sets, maps and tops as dictionaries.
+#![tactic(auto)]
+
+mod entries;
+mod map;
+mod merging;
+mod pair;
+mod place;
+mod set;
+mod top;
+
+pub use entries::{
+    Joining, Steps, add_entries, add_entry, plus_items, plus_items_recorded, take_back,
+    take_items_back,
+};
+pub use map::{Entries, MapM};
+pub use merging::merge_entries;
+pub use pair::{Both, PairM};
+pub use place::{Ordered, place_of};
+pub use set::{Keys, SetM};
+pub use top::{Scored, TopM};
+
+#[cfg(test)]
+mod tests;
