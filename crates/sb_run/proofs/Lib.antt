@@ -5,3 +5,6 @@ pub mod Causes
 pub mod Records
 pub mod Endings
 pub mod Words
+pub mod Programs
+pub mod Forms
+pub mod FieldSteps

@@ -1,6 +1,6 @@
 -- What stands at the places of a three-line text, whatever the text is. Read so, the text of a program gives the program; of another
 -- text this says nothing.
-use Rattle.std.specs.Prelude.{ℕ, zero, suc, ◌+◌, ◌-◌, ◌^◌, ℤ, pos, Bool, false, ◌||◌, ◌==◌, codes, List, [], ◌∷◌, drop, length, Option, if◌then◌else◌, unwrap_or}
+use Rattle.std.specs.Prelude.{ℕ, zero, suc, ◌+◌, ◌-◌, ◌^◌, ℤ, pos, Bool, false, ◌||◌, ◌==◌, codes, List, [], ◌∷◌, drop, length, if◌then◌else◌, unwrap_or}
 use Rattle.std.specs.Str.{bytes_eq}
 use Rattle.sb_text.specs.Decimal.{natural, integer}
 use Rattle.sb_run.specs.Names.{is_letter_or_digit}
@@ -49,35 +49,62 @@ abbrev pub place_of : List ℕ → List Field → ℕ
 place_of name [] = 0
 place_of name (field ∷ fields) = if bytes_eq field.name name then 0 else place_of name fields + 1
 
-abbrev pub at_from : List ℕ → List ℕ
-at_from bytes = drop 6 (behind_word (drop 6 bytes))
+-- batch LENGTH from FROM
+abbrev pub length_in : List ℕ → ℕ
+length_in line = unwrap_or (natural (2 ^ 64 - 1) (leading (drop 6 line))) 0
 
-abbrev pub at_source : List ℕ → List ℕ
-at_source bytes = drop 8 (behind_word (at_from bytes))
+abbrev pub at_from : List ℕ → List ℕ
+at_from line = drop 6 (behind_word (drop 6 line))
+
+abbrev pub from_in : List ℕ → ℤ
+from_in line = unwrap_or (integer (leading (at_from line))) (pos 0)
+
+abbrev pub behind_batch_line : List ℕ → List ℕ
+behind_batch_line line = drop 1 (behind_word (at_from line))
+
+-- source S (F: T, F: T)
+abbrev pub source_in : List ℕ → List ℕ
+source_in line = leading (drop 7 line)
 
 abbrev pub at_fields : List ℕ → List ℕ
-at_fields bytes = drop 2 (behind_word (at_source bytes))
-
-abbrev pub at_store : List ℕ → List ℕ
-at_store bytes = drop 8 (behind_fields (length (at_fields bytes)) (at_fields bytes))
-
-abbrev pub at_key : List ℕ → List ℕ
-at_key bytes = drop 11 (behind_word (drop 3 (behind_word (at_store bytes))))
-
-abbrev pub at_value : List ℕ → List ℕ
-at_value bytes = drop 5 (behind_word (at_key bytes))
+at_fields line = drop 2 (behind_word (drop 7 line))
 
 abbrev pub all_fields : List ℕ → List Field
-all_fields bytes = fields_in (length (at_fields bytes)) (at_fields bytes)
+all_fields bytes = fields_in (length bytes) bytes
 
--- the program in a text
-abbrev pub program_in : List ℕ → Program
-program_in bytes = record {
-  length = unwrap_or (natural (2 ^ 64 - 1) (leading (drop 6 bytes))) 0;
-  from = unwrap_or (integer (leading (at_from bytes))) (pos 0);
-  source = leading (at_source bytes);
-  fields = all_fields bytes;
-  store = leading (at_store bytes);
-  key = place_of (leading (at_key bytes)) (all_fields bytes);
-  value = place_of (leading (at_value bytes)) (all_fields bytes);
+abbrev pub behind_all_fields : List ℕ → List ℕ
+behind_all_fields bytes = behind_fields (length bytes) bytes
+
+abbrev pub source_fields_in : List ℕ → List Field
+source_fields_in line = all_fields (at_fields line)
+
+abbrev pub behind_source_line : List ℕ → List ℕ
+behind_source_line line = drop 2 (behind_all_fields (at_fields line))
+
+-- store N = S | map (it.A, it.V)
+abbrev pub store_in : List ℕ → List ℕ
+store_in line = leading (drop 6 line)
+
+abbrev pub at_key : List ℕ → List ℕ
+at_key line = drop 11 (behind_word (drop 3 (behind_word (drop 6 line))))
+
+abbrev pub key_in : List ℕ → List ℕ
+key_in line = leading (at_key line)
+
+abbrev pub value_in : List ℕ → List ℕ
+value_in line = leading (drop 5 (behind_word (at_key line)))
+
+-- the program in a text, by what stands in its lines
+abbrev pub program_by : List ℕ → List ℕ → List ℕ → Program
+program_by batch_line source_line store_line = record {
+  length = length_in batch_line;
+  from = from_in batch_line;
+  source = source_in source_line;
+  fields = source_fields_in source_line;
+  store = store_in store_line;
+  key = place_of (key_in store_line) (source_fields_in source_line);
+  value = place_of (value_in store_line) (source_fields_in source_line);
 }
+
+abbrev pub program_in : List ℕ → Program
+program_in bytes = program_by bytes (behind_batch_line bytes) (behind_source_line (behind_batch_line bytes))

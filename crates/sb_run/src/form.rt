@@ -1,8 +1,8 @@
 // The three-line form of a program: which programs have one, and its text.
-ghost use Rattle.std.specs.Prelude.{◌≡◌, ◌++◌, ◌&&◌, ◌↔◌, map, IsTrue, IfOk, OnOk, IfSome};
+ghost use Rattle.std.specs.Prelude.{◌≡◌, ◌++◌, ◌&&◌, true, false, nat_lt, map, length, IfOk, OnOk, IfSome};
 ghost use Rattle.std.specs.List.{list_all, list_any};
 ghost use Rattle.std.specs.Str.{bytes_eq};
-ghost use Rattle.sb_run.specs.Form.{Accepts, IsServed, field_text, fields_text, type_text, name_at, program_text, is_served, is_int_at, are_distinct};
+ghost use Rattle.sb_run.specs.Form.{Accepts, field_text, fields_text, type_text, field_at, name_at, batch_line, source_line, pair_text, summing_text, store_line, program_text, is_served, is_int, is_named_and_served, are_distinct, is_batch_length, is_start, are_batches, are_two_names, are_fields, is_accepted};
 ghost use Rattle.sb_run.specs.Names.{is_name};
 ghost use Rattle.sb_run.specs.Program as spec;
 ghost use Rattle.sb_run.specs.Views.{field_view, program_view, IsReadAs};
@@ -16,34 +16,80 @@ use std::alloc::Global;
 /// The most bytes of a program's text.
 pub const PROGRAM_LIMIT: usize = 65_536;
 
+const LENGTH_LIMIT: u64 = 9_223_372_036_854_775_807;
+
 /// The program that a text is; `None` exactly where it isn't an accepted one.
 pub fn read_program(alloc: Global, text: &[u8]) -> Result<Option<Program>, NoMemory>
     ensures some { IfOk result (λ program. IfSome program (λ p. Accepts text.now (program_view p))) }
     ensures every { IfOk result (λ program. (other : spec.Program) → Accepts text.now other → IsReadAs program other) }
 {
     let program = program_in(alloc, text)?;
-    if text.len() > PROGRAM_LIMIT || !is_accepted(&program) {
-        return Ok(None);
+    if spells(alloc, text, &program)? {
+        Ok(Some(program))
+    } else {
+        Ok(None)
     }
-    if program_text(alloc, &program)?.as_slice() != text {
-        return Ok(None);
+}
+
+// Whether the text is accepted and is that of this program.
+fn spells(alloc: Global, text: &[u8], program: &Program) -> Result<bool, NoMemory>
+    ensures yes { IfOk result (λ is. is ≡ true → Accepts text.now (program_view program.now)) }
+    ensures no { IfOk result (λ is. is ≡ false → ¬ (Accepts text.now (program_view program.now))) }
+{
+    if text.len() > PROGRAM_LIMIT || !is_accepted(program) {
+        return Ok(false);
     }
-    Ok(Some(program))
+    Ok(program_text(alloc, program)?.as_slice() == text)
 }
 
 fn is_accepted(program: &Program) -> bool
-    ensures { IsTrue result ↔ IsServed (program_view program.now) }
+    ensures { result ≡ is_accepted (program_view program.now) }
 {
-    0 < program.length
-        && program.length <= i64::MAX as u64
-        && i64::MIN < program.from
-        && is_name(program.source.as_bytes())
-        && is_name(program.store.as_bytes())
-        && program.source.as_bytes() != program.store.as_bytes()
-        && are_named(&program.fields)
-        && are_distinct(&program.fields)
-        && program.key < program.fields.len()
-        && is_int_at(program.value, &program.fields)
+    are_batches(program) && are_two_names(program) && are_fields(program)
+}
+
+fn are_batches(program: &Program) -> bool
+    ensures { result ≡ are_batches (program_view program.now) }
+{
+    is_batch_length(program.length) && is_start(program.from)
+}
+
+fn is_batch_length(length: u64) -> bool
+    ensures { result ≡ is_batch_length length }
+{
+    0 < length && length <= LENGTH_LIMIT
+}
+
+fn is_start(from: i64) -> bool
+    ensures { result ≡ is_start from }
+{
+    i64::MIN < from
+}
+
+fn are_two_names(program: &Program) -> bool
+    ensures { result ≡ are_two_names (program_view program.now) }
+{
+    let source = program.source.as_bytes();
+    let store = program.store.as_bytes();
+    is_name(source) && is_name(store) && source != store
+}
+
+fn are_fields(program: &Program) -> bool
+    ensures { result ≡ are_fields (program_view program.now) }
+{
+    are_declared(&program.fields) && are_chosen(program.key, program.value, &program.fields)
+}
+
+fn are_declared(fields: &[Field]) -> bool
+    ensures { result ≡ (list_all is_named_and_served (map field_view fields.now) && are_distinct (map field_view fields.now)) }
+{
+    are_named(fields) && are_distinct(fields)
+}
+
+fn are_chosen(key: usize, value: usize, fields: &[Field]) -> bool
+    ensures { result ≡ (nat_lt key (length (map field_view fields.now)) && is_int (field_at value (map field_view fields.now)).type) }
+{
+    key < fields.len() && is_int_at(value, fields)
 }
 
 fn is_served(field: FieldType) -> bool
@@ -56,7 +102,7 @@ fn is_served(field: FieldType) -> bool
 }
 
 fn are_named(fields: &[Field]) -> bool
-    ensures { result ≡ list_all (λ field. is_name field.name && is_served field.type) (map field_view fields.now) }
+    ensures { result ≡ list_all is_named_and_served (map field_view fields.now) }
 {
     for field in fields {
         if !is_name(field.name.as_bytes()) || !is_served(field.field_type) {
@@ -92,7 +138,7 @@ fn are_distinct(fields: &[Field]) -> bool
 }
 
 fn is_int_at(place: usize, fields: &[Field]) -> bool
-    ensures { result ≡ is_int_at place (map field_view fields.now) }
+    ensures { result ≡ is_int (field_at place (map field_view fields.now)).type }
 {
     match fields.get(place) {
         Some(field) => field.field_type == FieldType::Int,
@@ -132,36 +178,73 @@ fn push_fields(out: &mut Vec<u8>, fields: &[Field]) -> Result<(), NoMemory>
     Ok(())
 }
 
-fn push_name_at(out: &mut Vec<u8>, place: usize, fields: &[Field]) -> Result<(), NoMemory>
-    ensures { OnOk result (out.new.items ≡ out.old.items ++ name_at place (map field_view fields.now)) }
+fn name_at(place: usize, fields: &[Field]) -> &[u8]
+    ensures { result.now ≡ name_at place (map field_view fields.now) }
 {
     match fields.get(place) {
-        Some(field) => out.extend_from_slice(field.name.as_bytes()),
-        None => Ok(()),
+        Some(field) => field.name.as_bytes(),
+        None => &[],
     }
 }
 
-/// The text of a program.
+fn push_batch_line(alloc: Global, out: &mut Vec<u8>, program: &Program) -> Result<(), NoMemory>
+    ensures { OnOk result (out.new.items ≡ out.old.items ++ batch_line (program_view program.now)) }
+{
+    out.extend_from_slice(b"batch ")?;
+    write_u64(alloc, out, program.length)?;
+    out.extend_from_slice(b" from ")?;
+    write_i64(alloc, out, program.from)?;
+    out.extend_from_slice(b"\n")
+}
+
+fn push_source_line(out: &mut Vec<u8>, program: &Program) -> Result<(), NoMemory>
+    ensures { OnOk result (out.new.items ≡ out.old.items ++ source_line (program_view program.now)) }
+{
+    out.extend_from_slice(b"source ")?;
+    out.extend_from_slice(program.source.as_bytes())?;
+    out.extend_from_slice(b" (")?;
+    push_fields(out, &program.fields)?;
+    out.extend_from_slice(b")\n")
+}
+
+fn push_pair(out: &mut Vec<u8>, key: &[u8], value: &[u8]) -> Result<(), NoMemory>
+    ensures { OnOk result (out.new.items ≡ out.old.items ++ pair_text key.now value.now) }
+{
+    out.extend_from_slice(b"map (it.")?;
+    out.extend_from_slice(key)?;
+    out.extend_from_slice(b", it.")?;
+    out.extend_from_slice(value)?;
+    out.extend_from_slice(b")")
+}
+
+fn push_summing(out: &mut Vec<u8>, program: &Program) -> Result<(), NoMemory>
+    ensures { OnOk result (out.new.items ≡ out.old.items ++ summing_text (program_view program.now)) }
+{
+    let key = name_at(program.key, &program.fields);
+    let value = name_at(program.value, &program.fields);
+    out.extend_from_slice(b" | ")?;
+    push_pair(out, key, value)?;
+    out.extend_from_slice(b" | sumByKey sum\n")?;
+    Ok(())
+}
+
+fn push_store_line(out: &mut Vec<u8>, program: &Program) -> Result<(), NoMemory>
+    ensures { OnOk result (out.new.items ≡ out.old.items ++ store_line (program_view program.now)) }
+{
+    out.extend_from_slice(b"store ")?;
+    out.extend_from_slice(program.store.as_bytes())?;
+    out.extend_from_slice(b" = ")?;
+    out.extend_from_slice(program.source.as_bytes())?;
+    push_summing(out, program)
+}
+
+// The text of a program.
 fn program_text(alloc: Global, program: &Program) -> Result<Vec<u8>, NoMemory>
     ensures { IfOk result (λ text. text.items ≡ program_text (program_view program.now)) }
 {
     let mut out = Vec::new(alloc);
-    out.extend_from_slice(b"batch ")?;
-    write_u64(alloc, &mut out, program.length)?;
-    out.extend_from_slice(b" from ")?;
-    write_i64(alloc, &mut out, program.from)?;
-    out.extend_from_slice(b"\nsource ")?;
-    out.extend_from_slice(program.source.as_bytes())?;
-    out.extend_from_slice(b" (")?;
-    push_fields(&mut out, &program.fields)?;
-    out.extend_from_slice(b")\nstore ")?;
-    out.extend_from_slice(program.store.as_bytes())?;
-    out.extend_from_slice(b" = ")?;
-    out.extend_from_slice(program.source.as_bytes())?;
-    out.extend_from_slice(b" | map (it.")?;
-    push_name_at(&mut out, program.key, &program.fields)?;
-    out.extend_from_slice(b", it.")?;
-    push_name_at(&mut out, program.value, &program.fields)?;
-    out.extend_from_slice(b") | sumByKey sum\n")?;
+    push_batch_line(alloc, &mut out, program)?;
+    push_source_line(&mut out, program)?;
+    push_store_line(&mut out, program)?;
     Ok(out)
 }
