@@ -264,7 +264,7 @@ fn names_and_fields_have_rules(rt: HostRuntime) -> Result<(), Fail> {
     Ok(())
 }
 
-// A program whose field names have this many bytes.
+// A program whose field has a name of this many bytes.
 fn program_with_name(alloc: Global, length: usize) -> Result<Vec<u8>, AllocError> {
     let mut name = Vec::new(alloc);
     for _ in 0..length {
@@ -292,20 +292,18 @@ fn a_name_has_at_most_64_bytes(rt: HostRuntime) -> Result<(), Fail> {
     Ok(())
 }
 
-// A program of exactly this many bytes, from 100 on: a source with many fields.
+// A program of this many bytes, at least 200, with many fields.
 fn program_of(alloc: Global, length: usize) -> Result<Vec<u8>, AllocError> {
     let end = b": int)\nstore t = s | map (it.k, it.k) | sumByKey sum\n";
     let mut program = Vec::from_slice(alloc, b"batch 1000 from 0\nsource s (k: int")?;
-    // Each field takes twelve bytes; the last one's name takes what is left.
-    let mut number = 10_000_u64;
-    for _ in 0..length {
+    // Each field takes thirteen bytes; the last one's name takes what is left.
+    for number in 10_000..20_000_u64 {
         if length < program.len() + end.len() + 24 {
             break;
         }
         program.extend_from_slice(b", f")?;
         program.extend_from_slice(number.to_string(alloc)?.as_bytes())?;
         program.extend_from_slice(b": int")?;
-        number += 1;
     }
     program.extend_from_slice(b", ")?;
     for _ in 0..length {

@@ -7,4 +7,4 @@ pub returns-in-Ok-All-clause-read : goal.returns-in-Ok-All-clause-read
 returns-in-Ok-All-clause-read g c =
     let content = g.H.Shelf.content c.args.shelf.now c.args.name.now in
     fetched_is_due content c.in-Ok-All.text c.deref.result.now c.accept.result
-    (subst (λ fetched. IsFetched 65536 content (Ok fetched)) c.in-Ok-All.text-is c.in-Ok-All.ensures.file) c.deref.ensures.value c.accept.ensures.accepts
+    (subst (λ fetched. IsFetched 65536 content (Ok fetched)) c.in-Ok-All.field-0-is c.in-Ok-All.ensures.file) c.deref.ensures.value c.accept.ensures.accepts
