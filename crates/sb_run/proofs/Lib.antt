@@ -4,3 +4,7 @@ pub mod Sends
 pub mod Causes
 pub mod Records
 pub mod Endings
+pub mod Words
+pub mod Programs
+pub mod Forms
+pub mod FieldSteps

@@ -3,7 +3,8 @@ use Rattle.std.specs.Prelude.{◌≡◌, ◌⊎◌, ℕ, ◌<◌, ◌≤◌, cod
 use Rattle.std.specs.Str.{bytes_eq}
 use Rattle.sb_io.specs.Shelf.{Content, Untold, Missing, Holds}
 use Rattle.sb_run.specs.Log.{LogRecord, LogFault, log_of}
-use Rattle.sb_run.specs.Program.{Program, Accepts, schema_of, report_of}
+use Rattle.sb_run.specs.Form.{Accepts}
+use Rattle.sb_run.specs.Program.{Program, schema_of, report_of}
 
 -- a command
 pub data Command : Type 0 where

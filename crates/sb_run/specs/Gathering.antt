@@ -5,7 +5,8 @@ use Rattle.sb_io.specs.Shelf.{Content}
 use Rattle.sb_run.specs.Answer.{Answer, FileDue, ProgramDue, LogDue, ReportDue, usage_answer, shelf_answer, memory_answer, program_answer, log_answer}
 use Rattle.sb_run.specs.Log.{log_of}
 use Rattle.sb_run.specs.Program as program
-use Rattle.sb_run.specs.Program.{Accepts, schema_of}
+use Rattle.sb_run.specs.Form.{Accepts}
+use Rattle.sb_run.specs.Program.{schema_of}
 use Rattle.sb_run.specs.Totals.{Totals, rows_of}
 use Rattle.sb_run.specs.Views.{program_view}
 use Rattle.sb_run.specs.declared.batch.Summed.{Summed}

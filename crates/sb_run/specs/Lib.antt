@@ -1,9 +1,12 @@
 pub mod Answer
 pub mod Call
 pub mod Fold
+pub mod Form
 pub mod Gathering
 pub mod Log
+pub mod Names
 pub mod Program
+pub mod Reading
 pub mod Report
 pub mod Schema
 pub mod Sending

@@ -1,5 +1,5 @@
--- Programs of the served form: one source, and one store that sums an int field by a key field.
-use Rattle.std.specs.Prelude.{◌≡◌, ℕ, ◌≤◌, ℤ, pos, codes, List, [], ◌∷◌, map, length, slice_index_or}
+-- What a program of the served form means: one source, and one store that sums an int field by a key field.
+use Rattle.std.specs.Prelude.{ℕ, ℤ, pos, List, [], ◌∷◌, map, slice_index_or}
 use Rattle.std.specs.Int.{w64, int_wrapping_add}
 use Rattle.std.specs.Fmt.{signed_decimal}
 use Rattle.sb_run.specs.Fold.{Emission}
@@ -8,7 +8,6 @@ use Rattle.sb_run.specs.Report.{store_report}
 use Rattle.sb_run.specs.Schema.{Schema}
 use Rattle.sb_run.specs.Value.{Value, int, text, truth, value_text}
 use Rattle.sb_run.specs.declared.program.FieldType.{FieldType}
-use Rattle.sb_run.specs.declared.program.FieldType.TheVariants.{Int, Text}
 
 -- a field's name and type
 pub record Field : Type 0 where
@@ -58,24 +57,3 @@ emission_of program record' = record {
 -- the report of the program on these records
 abbrev pub report_of : Program → List LogRecord → List ℕ
 report_of program records = store_report plus signed_decimal program.store (map (emission_of program) records)
-
--- `batch 1000 from 0`, `source s (k: text, v: int)`, `store t = s | map (it.k, it.v) | sumByKey sum`
-abbrev pub served : Program
-served = record {
-  length = 1000;
-  from = pos 0;
-  source = codes "s";
-  fields = record { name = codes "k"; type = Text } ∷ record { name = codes "v"; type = Int } ∷ [];
-  store = codes "t";
-  key = 0;
-  value = 1;
-}
-
-abbrev pub served_text : List ℕ
-served_text = codes "batch 1000 from 0\nsource s (k: text, v: int)\nstore t = s | map (it.k, it.v) | sumByKey sum\n"
-
--- the text is an accepted one, of this program
-pub record Accepts (bytes : List ℕ) (program : Program) : Type 0 where
-  pub short : length bytes ≤ 65536
-  pub spelled : bytes ≡ served_text
-  pub means : program ≡ served

@@ -1,5 +1,5 @@
 -- What contracts see of the Rust types.
-use Rattle.std.specs.Prelude.{◌≡◌, ℕ, ℤ, Bool, ◌||◌, nat_lt, List, ◌++◌, length, map, Result, Ok, Err, if◌then◌else◌}
+use Rattle.std.specs.Prelude.{◌≡◌, ℕ, ℤ, Bool, ◌||◌, nat_lt, List, ◌++◌, length, map, Option, Some, None, Result, Ok, Err, if◌then◌else◌}
 use Rattle.std.specs.Borrow.{Bor}
 use Rattle.std.specs.declared.vec.Vec.{Vec}
 use Rattle.std.specs.declared.alloc.Global.{Global}
@@ -88,3 +88,11 @@ emission_view emission = record { position = emission.position; key = emission.k
 
 abbrev pub emissions_view : Vec emitted.Emission Global → List (Emission ℤ)
 emissions_view emissions = map emission_view emissions.items
+
+abbrev pub fields_view : Vec Field Global → List program.Field
+fields_view fields = map field_view fields.items
+
+-- a program is read, and it is this one
+abbrev pub IsReadAs : Option Program → program.Program → Type 0
+IsReadAs None other = ⊥
+IsReadAs (Some program') other = program_view program' ≡ other

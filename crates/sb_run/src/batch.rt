@@ -7,15 +7,14 @@ ghost use Rattle.sb_run.specs.Views.{program_view, records_view};
 ghost use Rattle.sb_run.specs.Gathering.{ReadsProgram, SumsLog, SumsRecords, SumsStore, Gathers, Accepted, IsCaused, IsCausedAt};
 
 use crate::emission::emissions;
+use crate::form::{PROGRAM_LIMIT, read_program};
 use crate::log::{LogError, LogRecord, read_log};
-use crate::program::{Program, read_program};
+use crate::program::Program;
 use crate::refusal::{Refusal, Which};
 use crate::totals::{Totals, totals};
 use sb_io::{Fetched, Shelf, ShelfError};
 use sb_text::{NoMemory, Text};
 use std::alloc::Global;
-
-const PROGRAM_LIMIT: u64 = 65_536;
 
 const LOG_LIMIT: u64 = 67_108_864;
 
@@ -69,7 +68,7 @@ fn fetch_program<H: Shelf>(alloc: Global, shelf: &mut H, name: &str) -> Result<P
     ensures frame { Fetches name.now (H.content shelf.old) (H.content shelf.new) (H.faults shelf.old) (H.faults shelf.new) }
     ensures cause { IfErr result (IsCausedAt Which.Program name.now (H.faults shelf.old) (H.faults shelf.new)) }
 {
-    match shelf.fetch(alloc, name, PROGRAM_LIMIT) {
+    match shelf.fetch(alloc, name, PROGRAM_LIMIT as u64) {
         Ok(Fetched::All(text)) => accept(alloc, &text),
         Ok(Fetched::Longer) => Err(Refusal::Program),
         Err(ShelfError::Failed) => Err(Refusal::Shelf(Which::Program)),

@@ -3,8 +3,11 @@
 
 mod batch;
 mod emission;
+mod form;
 mod log;
+mod naming;
 mod program;
+mod reading;
 mod refusal;
 mod report;
 mod top;

@@ -1,7 +1,6 @@
 // What a program of the served form says.
-ghost use Rattle.std.specs.Prelude.{◌≡◌, ◌≢◌, map, IfOk, IfSome, IfNone};
-ghost use Rattle.sb_run.specs.Program.{Accepts, served, served_text};
-ghost use Rattle.sb_run.specs.Views.{field_view, program_view};
+ghost use Rattle.std.specs.Prelude.{◌≡◌, map, IfOk};
+ghost use Rattle.sb_run.specs.Views.{field_view};
 
 use sb_text::{NoMemory, Text};
 use std::alloc::Global;
@@ -90,47 +89,4 @@ fn types_of(alloc: Global, fields: &[Field]) -> Result<Vec<FieldType>, NoMemory>
         types.push(field.field_type)?;
     }
     Ok(types)
-}
-
-const SERVED: &[u8] =
-    b"batch 1000 from 0\nsource s (k: text, v: int)\nstore t = s | map (it.k, it.v) | sumByKey sum\n";
-
-/// The program that a text is; `None` where it isn't an accepted one.
-pub fn read_program(alloc: Global, text: &[u8]) -> Result<Option<Program>, NoMemory>
-    ensures some { IfOk result (λ program. IfSome program (λ p. Accepts text.now (program_view p))) }
-    ensures none { IfOk result (λ program. IfNone program (text.now ≢ served_text)) }
-{
-    if text != SERVED {
-        return Ok(None);
-    }
-    Ok(Some(served(alloc)?))
-}
-
-fn served(alloc: Global) -> Result<Program, NoMemory>
-    ensures { IfOk result (λ program. program_view program ≡ served) }
-{
-    let mut fields = Vec::with_capacity(alloc, 2)?;
-    fields.push(Field {
-        name: text_of(alloc, "k")?,
-        field_type: FieldType::Text,
-    })?;
-    fields.push(Field {
-        name: text_of(alloc, "v")?,
-        field_type: FieldType::Int,
-    })?;
-    Ok(Program {
-        length: 1000,
-        from: 0,
-        source: text_of(alloc, "s")?,
-        fields,
-        store: text_of(alloc, "t")?,
-        key: 0,
-        value: 1,
-    })
-}
-
-fn text_of(alloc: Global, text: &str) -> Result<Text, NoMemory>
-    ensures { IfOk result (λ t. t ≡ text.now) }
-{
-    Ok(Text::from_string(String::from_str(alloc, text)?))
 }

@@ -184,25 +184,184 @@ fn a_line_has_at_most_16384_bytes(rt: HostRuntime) -> Result<(), Fail> {
     Ok(())
 }
 
-#[test]
-fn other_programs_are_refused(rt: HostRuntime) -> Result<(), Fail> {
-    let programs: [&'static [u8]; 4] = [
-        b"",
-        b"batch 1000 from 0\n",
-        b"batch 1000 from 0\nsource s (k: text, v: int)\nstore t = s | map (it.k, it.v) | sumByKey sum",
-        b"batch 1000 from 0\nsource s (k: text, v: int)\nstore t = s | map (it.k, it.v) | sumByKey max\n",
-    ];
+fn expect_refused(
+    rt: &impl Abort,
+    alloc: Global,
+    programs: &[&[u8]],
+) -> Result<(), AllocError> {
     for program in programs {
-        let mut shelf = shelf_of(rt.alloc(), program, b"")?;
+        let mut shelf = shelf_of(alloc, program, b"")?;
         expect(
-            &rt,
-            rt.alloc(),
+            rt,
+            alloc,
             &mut shelf,
             &["batch", "p", "l"],
             6,
             b"error 6 notyet\n",
         )?;
     }
+    Ok(())
+}
+
+#[test]
+fn other_programs_are_refused(rt: HostRuntime) -> Result<(), Fail> {
+    let programs: [&'static [u8]; 8] = [
+        b"",
+        b"batch 1000 from 0\n",
+        b"batch 1000 from 0\nsource s (k: text, v: int)\nstore t = s | map (it.k, it.v) | sumByKey sum",
+        b"batch 1000 from 0\nsource s (k: text, v: int)\nstore t = s | map (it.k, it.v) | sumByKey max\n",
+        b"batch  1000 from 0\nsource s (k: text, v: int)\nstore t = s | map (it.k, it.v) | sumByKey sum\n",
+        b"batch 1000 from 0\nsource s (k: text,  v: int)\nstore t = s | map (it.k, it.v) | sumByKey sum\n",
+        b"batch 1000 from 0\nsource s (k: text, v: int)\nstore t = u | map (it.k, it.v) | sumByKey sum\n",
+        b"batch 1000 from 0\nsource s (k: text, v: int)\nstore t = s | map (it.k, it.v) | sumByKey sum\n\n",
+    ];
+    expect_refused(&rt, rt.alloc(), &programs)?;
+    Ok(())
+}
+
+#[test]
+fn lengths_and_starts_have_limits(rt: HostRuntime) -> Result<(), Fail> {
+    let programs: [&'static [u8]; 6] = [
+        b"batch 0 from 0\nsource s (k: text, v: int)\nstore t = s | map (it.k, it.v) | sumByKey sum\n",
+        b"batch 05 from 0\nsource s (k: text, v: int)\nstore t = s | map (it.k, it.v) | sumByKey sum\n",
+        b"batch 9223372036854775808 from 0\nsource s (k: text, v: int)\nstore t = s | map (it.k, it.v) | sumByKey sum\n",
+        b"batch 1 from -9223372036854775808\nsource s (k: text, v: int)\nstore t = s | map (it.k, it.v) | sumByKey sum\n",
+        b"batch 1 from 9223372036854775808\nsource s (k: text, v: int)\nstore t = s | map (it.k, it.v) | sumByKey sum\n",
+        b"batch 1 from -0\nsource s (k: text, v: int)\nstore t = s | map (it.k, it.v) | sumByKey sum\n",
+    ];
+    expect_refused(&rt, rt.alloc(), &programs)?;
+    let longest = b"batch 9223372036854775807 from -9223372036854775807\nsource s (k: text, v: int)\nstore t = s | map (it.k, it.v) | sumByKey sum\n";
+    let cases = [
+        Case {
+            log: b"s\t-9223372036854775807\tk\t2\ns\t9223372036854775807\tk\t3\n",
+            status: 0,
+            output: b"t\tk\t5\n",
+        },
+        Case {
+            log: b"s\t-9223372036854775808\tk\t2\n",
+            status: 7,
+            output: b"error 7 notyet\n",
+        },
+    ];
+    expect_all(&rt, rt.alloc(), longest, &cases)?;
+    Ok(())
+}
+
+#[test]
+fn names_and_fields_have_rules(rt: HostRuntime) -> Result<(), Fail> {
+    let programs: [&'static [u8]; 9] = [
+        b"batch 1000 from 0\nsource t (k: text, v: int)\nstore t = t | map (it.k, it.v) | sumByKey sum\n",
+        b"batch 1000 from 0\nsource sum (k: text, v: int)\nstore t = sum | map (it.k, it.v) | sumByKey sum\n",
+        b"batch 1000 from 0\nsource 1s (k: text, v: int)\nstore t = 1s | map (it.k, it.v) | sumByKey sum\n",
+        b"batch 1000 from 0\nsource s (k-1: text, v: int)\nstore t = s | map (it.k-1, it.v) | sumByKey sum\n",
+        b"batch 1000 from 0\nsource s (k: text, v: int, k: int)\nstore t = s | map (it.k, it.v) | sumByKey sum\n",
+        b"batch 1000 from 0\nsource s (k: text, v: int)\nstore t = s | map (it.v, it.k) | sumByKey sum\n",
+        b"batch 1000 from 0\nsource s (k: text, v: int)\nstore t = s | map (it.x, it.v) | sumByKey sum\n",
+        b"batch 1000 from 0\nsource s (k: bool, v: int)\nstore t = s | map (it.k, it.v) | sumByKey sum\n",
+        b"batch 1000 from 0\nsource s ()\nstore t = s | map (it.k, it.v) | sumByKey sum\n",
+    ];
+    expect_refused(&rt, rt.alloc(), &programs)?;
+    Ok(())
+}
+
+// A program whose field has a name of this many bytes.
+fn program_with_name(alloc: Global, length: usize) -> Result<Vec<u8>, AllocError> {
+    let mut name = Vec::new(alloc);
+    for _ in 0..length {
+        name.push(b'n')?;
+    }
+    let mut program = Vec::from_slice(alloc, b"batch 1000 from 0\nsource s (")?;
+    program.extend_from_slice(&name)?;
+    program.extend_from_slice(b": int)\nstore t = s | map (it.")?;
+    program.extend_from_slice(&name)?;
+    program.extend_from_slice(b", it.")?;
+    program.extend_from_slice(&name)?;
+    program.extend_from_slice(b") | sumByKey sum\n")?;
+    Ok(program)
+}
+
+#[test]
+fn a_name_has_at_most_64_bytes(rt: HostRuntime) -> Result<(), Fail> {
+    let alloc = rt.alloc();
+    let batch = words(alloc, &["batch", "p", "l"])?;
+    for (length, status) in [(0, 6), (1, 0), (64, 0), (65, 6)] {
+        let mut shelf = shelf_of(alloc, &program_with_name(alloc, length)?, b"s\t0\t1\n")?;
+        let mut sink = MemSink::new(alloc);
+        assert_eq!(&rt; summingbird(alloc, &batch, &mut shelf, &mut sink), status);
+    }
+    Ok(())
+}
+
+// A program of this many bytes, at least 200, with many fields.
+fn program_of(alloc: Global, length: usize) -> Result<Vec<u8>, AllocError> {
+    let end = b": int)\nstore t = s | map (it.k, it.k) | sumByKey sum\n";
+    let mut program = Vec::from_slice(alloc, b"batch 1000 from 0\nsource s (k: int")?;
+    // Each field takes thirteen bytes; the last one's name takes what is left.
+    for number in 10_000..20_000_u64 {
+        if length < program.len() + end.len() + 24 {
+            break;
+        }
+        program.extend_from_slice(b", f")?;
+        program.extend_from_slice(number.to_string(alloc)?.as_bytes())?;
+        program.extend_from_slice(b": int")?;
+    }
+    program.extend_from_slice(b", ")?;
+    for _ in 0..length {
+        if length <= program.len() + end.len() {
+            break;
+        }
+        program.push(b'l')?;
+    }
+    program.extend_from_slice(end)?;
+    Ok(program)
+}
+
+#[test]
+fn a_program_has_at_most_65536_bytes(rt: HostRuntime) -> Result<(), Fail> {
+    let alloc = rt.alloc();
+    let batch = words(alloc, &["batch", "p", "l"])?;
+    for (length, status) in [(65_536, 0), (65_537, 6)] {
+        let program = program_of(alloc, length)?;
+        assert_eq!(&rt; program.len(), length);
+        let mut shelf = shelf_of(alloc, &program, b"")?;
+        let mut sink = MemSink::new(alloc);
+        assert_eq!(&rt; summingbird(alloc, &batch, &mut shelf, &mut sink), status);
+    }
+    Ok(())
+}
+
+#[test]
+fn programs_of_the_form_are_served(rt: HostRuntime) -> Result<(), Fail> {
+    let visits = b"batch 86400000 from -5\nsource Visits_2 (page: text, seconds: int, _user: text)\nstore time_on = Visits_2 | map (it._user, it.seconds) | sumByKey sum\n";
+    let cases = [
+        Case {
+            log: b"Visits_2\t-5\thome\t30\tann\nVisits_2\t0\tnews\t5\tbob\nVisits_2\t1\thome\t7\tann\n",
+            status: 0,
+            output: b"time_on\tann\t37\ntime_on\tbob\t5\n",
+        },
+        Case {
+            log: b"Visits_2\t-6\thome\t30\tann\n",
+            status: 7,
+            output: b"error 7 notyet\n",
+        },
+    ];
+    expect_all(&rt, rt.alloc(), visits, &cases)?;
+
+    let by_int = b"batch 1 from 0\nsource reads (sensor: int, place: text, value: int)\nstore sums = reads | map (it.sensor, it.value) | sumByKey sum\n";
+    let cases = [Case {
+        log: b"reads\t0\t10\tx\t1\nreads\t0\t9\tx\t2\nreads\t0\t-1\tx\t3\nreads\t0\t0\tx\t4\n",
+        status: 0,
+        output: b"sums\t-1\t3\nsums\t0\t4\nsums\t10\t1\nsums\t9\t2\n",
+    }];
+    expect_all(&rt, rt.alloc(), by_int, &cases)?;
+
+    let one_field = b"batch 1 from 0\nsource s (v: int)\nstore t = s | map (it.v, it.v) | sumByKey sum\n";
+    let cases = [Case {
+        log: b"s\t0\t21\ns\t0\t21\n",
+        status: 0,
+        output: b"t\t21\t42\n",
+    }];
+    expect_all(&rt, rt.alloc(), one_field, &cases)?;
     Ok(())
 }
 
