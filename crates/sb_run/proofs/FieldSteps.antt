@@ -1,5 +1,5 @@
 -- One field more of those that stand in a text.
-use Rattle.std.proofs.Common.{◌≡◌, ℕ, suc, true, false, List, [], ◌∷◌, ◌++◌, map, drop, refl, sym, ap, ◌∙◌, append_assoc}
+use Rattle.std.proofs.Common.{◌≡◌, ℕ, suc, true, false, List, [], ◌∷◌, ◌++◌, map, drop, ap, ◌∙◌, append_assoc}
 use Rattle.sb_run.specs.Program as program
 use Rattle.sb_run.specs.Reading.{begins_with_comma, field_in, behind_field, fields_in, behind_fields}
 use Rattle.sb_run.specs.Views.{field_view}

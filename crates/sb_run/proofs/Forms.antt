@@ -1,6 +1,6 @@
 -- The text of a program is read as that program.
-use Rattle.std.proofs.Common.{◌≡◌, ℕ, zero, suc, ◌+◌, ◌-◌, ◌^◌, ◌<◌, ◌≤◌, ℤ, pos, negsuc, Bool, true, false, ◌&&◌, List, [], ◌∷◌, ◌++◌, length, drop, arith, refl, sym, ap, ◌∙◌, append_assoc}
-use Rattle.std.specs.Prelude.{◌||◌, codes, not, nat_lt, nat_le, unwrap_or, FitsSigned}
+use Rattle.std.proofs.Common.{◌≡◌, ℕ, zero, suc, ◌-◌, ◌^◌, ◌<◌, ◌≤◌, ℤ, pos, negsuc, Bool, true, false, ◌&&◌, List, [], ◌∷◌, ◌++◌, length, drop, arith, refl, sym, ap, ◌∙◌, append_assoc}
+use Rattle.std.specs.Prelude.{◌||◌, codes, not, nat_lt, unwrap_or, FitsSigned}
 use Rattle.std.specs.Fmt.{decimal, signed_decimal}
 use Rattle.std.specs.Int.{w64}
 use Rattle.std.specs.List.{list_all, list_any}
@@ -36,7 +36,7 @@ length_again : (q : Program) (rest : List ℕ) → q.length < 2 ^ 63 → length_
 length_again q rest small =
     ap (λ line. length_in line) (batch_then q.length q.from rest)
     ∙ (ap (λ word. unwrap_or (natural (2 ^ 64 - 1) word) 0)
-        (leading-word (decimal q.length) 32 (codes "from " ++ (signed_decimal q.from ++ (codes "\n" ++ rest))) (decimal_is_word q.length (omega arith)) refl)
+    (leading-word (decimal q.length) 32 (codes "from " ++ (signed_decimal q.from ++ (codes "\n" ++ rest))) (decimal_is_word q.length (omega arith)) refl)
     ∙ ap (λ o. unwrap_or o 0) (natural-decimal (2 ^ 64 - 1) q.length (omega arith) (omega arith)))
 
 at_from_again : (q : Program) (rest : List ℕ) → q.length < 2 ^ 63 → at_from (batch_line q ++ rest) ≡ signed_decimal q.from ++ 10 ∷ rest

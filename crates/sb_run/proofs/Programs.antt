@@ -1,12 +1,11 @@
 -- A program that is read or refused is the one that is due.
-use Rattle.std.proofs.Common.{◌≡◌, ◌⊎◌, ◌∙◌, ℕ, List, subst, sym, Ok, Err, Global}
+use Rattle.std.proofs.Common.{◌≡◌, ◌∙◌, ℕ, List, subst, Ok, Err, Global}
 use mathlib.Core.Logic.{inl, inr}
 use Rattle.std.specs.Prelude.{Result, codes}
 use Rattle.std.specs.declared.vec.Vec.{Vec}
 use Rattle.sb_io.specs.Shelf.{Content, Untold, Missing, Holds, IsFetched}
 use Rattle.sb_io.specs.declared.shelf.Fetched.TheVariants.{All}
 use Rattle.sb_run.specs.Answer.{FileDue, LogDue}
-use Rattle.sb_run.specs.Form.{Accepts}
 use Rattle.sb_run.specs.Gathering.{Accepted, ReadsProgram}
 use Rattle.sb_run.specs.Views.{program_view}
 use Rattle.sb_run.specs.declared.program.Program.{Program}

@@ -171,10 +171,7 @@ fn read_batch_line(reader: &mut Reader<'_>) -> (u64, i64)
 }
 
 // S and its fields.
-fn read_source_line(
-    alloc: Global,
-    reader: &mut Reader<'_>,
-) -> Result<(Text, Vec<Field>), NoMemory>
+fn read_source_line(alloc: Global, reader: &mut Reader<'_>) -> Result<(Text, Vec<Field>), NoMemory>
     ensures source { IfOk result (λ read. read.0 ≡ source_in reader.old) }
     ensures fields { IfOk result (λ read. fields_view read.1 ≡ source_fields_in reader.old) }
     ensures rest { OnOk result (reader.new ≡ behind_source_line reader.old) }

@@ -184,11 +184,7 @@ fn a_line_has_at_most_16384_bytes(rt: HostRuntime) -> Result<(), Fail> {
     Ok(())
 }
 
-fn expect_refused(
-    rt: &impl Abort,
-    alloc: Global,
-    programs: &[&[u8]],
-) -> Result<(), AllocError> {
+fn expect_refused(rt: &impl Abort, alloc: Global, programs: &[&[u8]]) -> Result<(), AllocError> {
     for program in programs {
         let mut shelf = shelf_of(alloc, program, b"")?;
         expect(
@@ -230,7 +226,8 @@ fn lengths_and_starts_have_limits(rt: HostRuntime) -> Result<(), Fail> {
         b"batch 1 from -0\nsource s (k: text, v: int)\nstore t = s | map (it.k, it.v) | sumByKey sum\n",
     ];
     expect_refused(&rt, rt.alloc(), &programs)?;
-    let longest = b"batch 9223372036854775807 from -9223372036854775807\nsource s (k: text, v: int)\nstore t = s | map (it.k, it.v) | sumByKey sum\n";
+    let longest =
+        b"batch 9223372036854775807 from -9223372036854775807\nsource s (k: text, v: int)\nstore t = s | map (it.k, it.v) | sumByKey sum\n";
     let cases = [
         Case {
             log: b"s\t-9223372036854775807\tk\t2\ns\t9223372036854775807\tk\t3\n",
@@ -332,7 +329,8 @@ fn a_program_has_at_most_65536_bytes(rt: HostRuntime) -> Result<(), Fail> {
 
 #[test]
 fn programs_of_the_form_are_served(rt: HostRuntime) -> Result<(), Fail> {
-    let visits = b"batch 86400000 from -5\nsource Visits_2 (page: text, seconds: int, _user: text)\nstore time_on = Visits_2 | map (it._user, it.seconds) | sumByKey sum\n";
+    let visits =
+        b"batch 86400000 from -5\nsource Visits_2 (page: text, seconds: int, _user: text)\nstore time_on = Visits_2 | map (it._user, it.seconds) | sumByKey sum\n";
     let cases = [
         Case {
             log: b"Visits_2\t-5\thome\t30\tann\nVisits_2\t0\tnews\t5\tbob\nVisits_2\t1\thome\t7\tann\n",
@@ -347,7 +345,8 @@ fn programs_of_the_form_are_served(rt: HostRuntime) -> Result<(), Fail> {
     ];
     expect_all(&rt, rt.alloc(), visits, &cases)?;
 
-    let by_int = b"batch 1 from 0\nsource reads (sensor: int, place: text, value: int)\nstore sums = reads | map (it.sensor, it.value) | sumByKey sum\n";
+    let by_int =
+        b"batch 1 from 0\nsource reads (sensor: int, place: text, value: int)\nstore sums = reads | map (it.sensor, it.value) | sumByKey sum\n";
     let cases = [Case {
         log: b"reads\t0\t10\tx\t1\nreads\t0\t9\tx\t2\nreads\t0\t-1\tx\t3\nreads\t0\t0\tx\t4\n",
         status: 0,
@@ -355,7 +354,8 @@ fn programs_of_the_form_are_served(rt: HostRuntime) -> Result<(), Fail> {
     }];
     expect_all(&rt, rt.alloc(), by_int, &cases)?;
 
-    let one_field = b"batch 1 from 0\nsource s (v: int)\nstore t = s | map (it.v, it.v) | sumByKey sum\n";
+    let one_field =
+        b"batch 1 from 0\nsource s (v: int)\nstore t = s | map (it.v, it.v) | sumByKey sum\n";
     let cases = [Case {
         log: b"s\t0\t21\ns\t0\t21\n",
         status: 0,

@@ -1,6 +1,5 @@
-use Rattle.std.proofs.Common.{◌≡◌, ◌∙◌, sym, subst}
+use Rattle.std.proofs.Common.{◌∙◌, sym, subst}
 use Rattle.sb_run.specs.Form.{Accepts}
-use Rattle.sb_run.specs.Views.{program_view}
 use Rattle.sb_run.proofs.Forms.{the_only}
 use Rattle.sb_run.proofs.form.read_program.Goals as goal
 

@@ -15,5 +15,5 @@ returns-clause-yes c = λ same. record {
 pub returns-clause-no : goal.returns-clause-no
 returns-clause-no c = λ other accepts.
     let same : c.eq.result ≡ true = is_same c.as_slice.result.now c.args.text.now (program_text (program_view c.args.program.now)) c.eq.result c.eq.ensures
-        (c.as_slice.ensures.value ∙ c.in_ok-program_text.ensures) accepts.spelled in
+    (c.as_slice.ensures.value ∙ c.in_ok-program_text.ensures) accepts.spelled in
     cc

@@ -1,6 +1,6 @@
-use Rattle.std.proofs.Common.{◌≡◌, ◌∙◌, ◌+◌, ◌-◌, ◌++◌, suc, [], ◌∷◌, true, false, arith, sym, ap}
+use Rattle.std.proofs.Common.{◌≡◌, ◌∙◌, ◌+◌, ◌-◌, suc, true, false, arith, sym}
 use Rattle.sb_run.specs.Reading.{field_in, behind_field, begins_with_comma, all_fields, behind_all_fields}
-use Rattle.sb_run.specs.Views.{field_view, fields_view}
+use Rattle.sb_run.specs.Views.{fields_view}
 use Rattle.sb_run.proofs.FieldSteps.{pushed, last_field, next_field, next_behind}
 use Rattle.sb_run.proofs.reading.read_fields.Goals as goal
 
