@@ -184,6 +184,29 @@ fn a_line_has_at_most_16384_bytes(rt: HostRuntime) -> Result<(), Fail> {
     Ok(())
 }
 
+#[test]
+fn a_log_has_at_most_64_mib(rt: HostRuntime) -> Result<(), Fail> {
+    let alloc = rt.alloc();
+    // 4,096 good lines, each of 16,384 bytes with its LF.
+    let mut log = line_of(alloc, 16_383)?;
+    for _ in 0..12 {
+        let copy = Vec::from_slice(alloc, &log)?;
+        log.extend_from_slice(&copy)?;
+    }
+    assert_eq!(&rt; log.len(), 67_108_864);
+    log.extend_from_slice(b"s\t0\tk\t1\n")?;
+    let mut shelf = shelf_of(alloc, SUM_BY_TEXT, &log)?;
+    expect(
+        &rt,
+        alloc,
+        &mut shelf,
+        &["batch", "p", "l"],
+        7,
+        b"error 7 notyet\n",
+    )?;
+    Ok(())
+}
+
 fn expect_refused(rt: &impl Abort, alloc: Global, programs: &[&[u8]]) -> Result<(), AllocError> {
     for program in programs {
         let mut shelf = shelf_of(alloc, program, b"")?;
