@@ -1,0 +1,8 @@
+use Rattle.std.proofs.lemmas.Result.{on_ok_weaker}
+use Rattle.sb_shard.proofs.Events.{folds_installed}
+use Rattle.sb_shard.proofs.shard.Shard.install.Goals as goal
+
+pub returns-clause-folds : goal.returns-clause-folds
+returns-clause-folds g c =
+    on_ok_weaker c.advance.result (λ installed stores add job own rows below folds.
+    folds_installed c.args.rows c.args.self.now c.advance.new.self installed stores add job own c.requires.from c.requires.to rows below folds) c.advance.ensures.ok
