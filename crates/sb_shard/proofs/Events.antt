@@ -1,9 +1,11 @@
 -- A new shard, a flush and an installation.
-use Rattle.std.proofs.Common.{◌≡◌, ◌⊎◌, inl, inr, ℕ, zero, suc, ◌+◌, ◌<◌, ◌≤◌, Bool, true, false, cond, ◌&&◌, ◌||◌, List, [], ◌∷◌, ◌++◌, length, get_or, Option, None, refl, sym, ap, subst, ◌∙◌, arith}
+use Rattle.std.proofs.Common.{◌≡◌, ◌⊎◌, inl, inr, ℕ, zero, suc, ◌+◌, ◌<◌, ◌≤◌, Bool, true, false, cond, ◌&&◌, ◌||◌, List, [], ◌∷◌, ◌++◌, length, get_or, Option, None, refl, sym, ap, subst, ◌∙◌, append-nil, map, filter, arith}
 use Rattle.std.specs.Prelude.{nat_lt, nat_le, ◌==◌, Contains}
 use Rattle.std.specs.List.{AllByRecursion, flat_map}
 use Rattle.std.specs.FinMap.{find}
 use Rattle.std.proofs.lemmas.List.{length-append}
+use Rattle.std.proofs.lemmas.List.Elements.{Contains-append_left, Contains-append_right, Contains-append_cases}
+use Rattle.std.proofs.lemmas.Grind.{flat_map-append}
 use Rattle.std.proofs.lemmas.Bool.Decides.{nat_tests}
 use Rattle.sb_text.specs.Ranges.{put, union}
 use Rattle.sb_laws.specs.Sums.{both_sums, CommutingLaws}
@@ -241,3 +243,40 @@ module _ {E : Type 0} (next : Rows E) (before after : Held E) (installed : IsIns
     published = λ key j known. installed_published key j known _ _ refl refl;
     online = installed_online;
   }
+
+elements_more : {E : Type 0} (x : Part E) (xs ys : List (Part E)) (row : KeyBytes × E) → (Contains (elements xs) row → Contains (elements ys) row) → Contains (elements (x ∷ xs)) row → Contains (elements (x ∷ ys)) row
+elements_more x xs ys row f h = joined (Contains-append_cases ((x.key, x.value) ∷ []) (elements xs) row h)
+  where
+    joined : Contains ((x.key, x.value) ∷ []) row ⊎ Contains (elements xs) row → Contains (elements (x ∷ ys)) row
+    joined (inl k) = Contains-append_left ((x.key, x.value) ∷ []) (elements ys) row k
+    joined (inr k) = Contains-append_right ((x.key, x.value) ∷ []) (elements ys) row (f k)
+
+elements_left : {E : Type 0} (s : Part E → Bool) (xs : List (Part E)) (row : KeyBytes × E) → Contains (elements (filter s xs)) row → Contains (elements xs) row
+elements_left s [] row h = h
+elements_left s (x ∷ xs) row h =
+    elim (s x) as (λ b. Contains (elements (cond b (x ∷ filter s xs) (filter s xs))) row → Contains (elements (x ∷ xs)) row) [
+      | true ↦ λ k. elements_more x (filter s xs) xs row (elements_left s xs row) k
+      | false ↦ λ k. Contains-append_right ((x.key, x.value) ∷ []) (elements xs) row (elements_left s xs row k)
+    ] h
+
+module _ {E : Type 0} (next : Rows E) (before after : Held E) (installed : IsInstalled next before after) (row : KeyBytes × E) where
+  rows_grown : flat_map (λ rows. rows) after.rows ≡ flat_map (λ rows. rows) before.rows ++ next.rows
+  rows_grown =
+      ap (flat_map (λ rows. rows)) installed.rows
+      ∙ (flat_map-append (λ rows. rows) before.rows (next.rows ∷ []) ∙ ap (λ l. flat_map (λ rows. rows) before.rows ++ l) (append-nil next.rows))
+
+  parts_left : AreSwept (length after.rows) before.parts after.parts → Contains (elements after.parts) row → Contains (elements before.parts) row
+  parts_left (inl e) h = subst (λ parts. Contains (elements parts) row) e h
+  parts_left (inr e) h = elements_left (λ part. nat_le (length after.rows) part.batch) before.parts row (subst (λ parts. Contains (elements parts) row) e h)
+
+  rows_left : Contains (flat_map (λ rows. rows) before.rows) row ⊎ Contains next.rows row → Contains (kept_by before) row ⊎ Contains next.rows row
+  rows_left (inl h) = inl (Contains-append_right (elements before.parts) (flat_map (λ rows. rows) before.rows) row h)
+  rows_left (inr h) = inr h
+
+  kept_cases : Contains (elements after.parts) row ⊎ Contains (flat_map (λ rows. rows) after.rows) row → Contains (kept_by before) row ⊎ Contains next.rows row
+  kept_cases (inl h) = inl (Contains-append_left (elements before.parts) (flat_map (λ rows. rows) before.rows) row (parts_left installed.parts h))
+  kept_cases (inr h) = rows_left (Contains-append_cases (flat_map (λ rows. rows) before.rows) next.rows row (subst (λ l. Contains l row) rows_grown h))
+
+  -- what is kept after an installation was kept before or came with it
+  pub keeps_only : Contains (kept_by after) row → Contains (kept_by before) row ⊎ Contains next.rows row
+  keeps_only h = kept_cases (Contains-append_cases (elements after.parts) (flat_map (λ rows. rows) after.rows) row h)

@@ -1,3 +1,4 @@
 pub mod Placing
 pub mod Gathered
 pub mod Events
+pub mod Asked

@@ -1,12 +1,14 @@
-ghost use Rattle.std.specs.Prelude.{◌≡◌, ◌<◌, ◌+◌, ℕ, Bool, [], OnOk, OnErr, IfOk};
+ghost use Rattle.std.specs.Prelude.{◌≡◌, ◌<◌, ◌+◌, ℕ, Bool, [], take, OnOk, OnErr, IfOk};
 ghost use Rattle.sb_text.specs.Ranges.{union};
-ghost use Rattle.sb_feed.specs.declared.key.KeyBytes.{KeyBytes};
 ghost use Rattle.sb_feed.specs.Jobs.{Job, AreValid, dictionaries};
-ghost use Rattle.sb_feed.specs.Stands.{elements, AreFoldsOf};
-ghost use Rattle.sb_shard.specs.Shards.{cover_of, published_to, floor_of, kept_by, shard_sums};
+ghost use Rattle.sb_feed.specs.Stands.{elements, AreFoldsOf, HasSums};
+ghost use Rattle.sb_shard.specs.Shards.{cover_of, published_to, floor_of, kept_by, published_sum, online_sum, shard_sums};
+ghost use Rattle.sb_shard.specs.Asks.{Answers};
 ghost use Rattle.sb_shard.specs.Events.{ShareNone, FlushKeeps, InstallKeeps, KeepsOnly, parts_from, flushed, AreSwept, IsInstalled};
 
-use sb_feed::{Family, Parcel, Part, RowList, Rows};
+use crate::answer::{Answer, AskError};
+use crate::gathering::{gather, gather_rows};
+use sb_feed::{Family, KeyBytes, Parcel, Part, RowList, Rows, Sums};
 use sb_laws::{NoMemory, Semigroup};
 use sb_text::Ranges;
 use std::alloc::Global;
@@ -118,6 +120,81 @@ impl<E: Drop> Shard<E> {
         sweep(&mut self.parts, published);
         Ok(())
     }
+
+    /// What the shard holds of a key up to a batch, at most one sum a batch.
+    pub fn ask<F: Family>(
+        &self,
+        alloc: Global,
+        family: &F,
+        key: &KeyBytes,
+        upto: u64,
+    ) -> Result<Answer<E>, AskError>
+    where
+        F::M: Semigroup<El = E>,
+        requires store { key.now.store < F.stores family.now }
+        requires kept { AreValid (dictionaries F.M.valid F.M.add (F.stores family.now) (F.dictionary family.now)) (kept_by self.now) }
+        ensures { IfOk result (λ answer. Answers (F.M.valid (F.dictionary family.now key.now.store)) (shard_sums (λ store. F.M.add (F.dictionary family.now store)) self.now) key.now upto answer) }
+    {
+        let published = self.published_sums(alloc, family, key, upto)?;
+        let online = self.online_sums(alloc, family, key, upto)?;
+        let cover = self.cover.copy()?;
+        Ok(Answer {
+            base: None,
+            published,
+            online,
+            cover,
+            published_to: self.published(),
+            floor: 0,
+        })
+    }
+
+    fn parts(&self) -> &[Part<E>]
+        ensures { result.now ≡ self.now.parts }
+    {
+        self.parts.as_slice()
+    }
+
+    fn rows(&self) -> &[RowList<E>]
+        ensures { result.now ≡ self.now.rows }
+    {
+        self.rows.as_slice()
+    }
+
+    fn published_sums<F: Family>(
+        &self,
+        alloc: Global,
+        family: &F,
+        key: &KeyBytes,
+        upto: u64,
+    ) -> Result<Sums<E>, NoMemory>
+    where
+        F::M: Semigroup<El = E>,
+        requires store { key.now.store < F.stores family.now }
+        requires kept { AreValid (dictionaries F.M.valid F.M.add (F.stores family.now) (F.dictionary family.now)) (kept_by self.now) }
+        ensures { IfOk result (λ sums. HasSums (F.M.valid (F.dictionary family.now key.now.store)) upto (published_sum self.now key.now) sums) }
+    {
+        let rows = rows_up_to(self.rows(), upto);
+        let sums = gather_rows(alloc, family.monoid(key.store), rows, key)?;
+        Ok(Sums::from_vec(sums))
+    }
+
+    fn online_sums<F: Family>(
+        &self,
+        alloc: Global,
+        family: &F,
+        key: &KeyBytes,
+        upto: u64,
+    ) -> Result<Sums<E>, NoMemory>
+    where
+        F::M: Semigroup<El = E>,
+        requires store { key.now.store < F.stores family.now }
+        requires kept { AreValid (dictionaries F.M.valid F.M.add (F.stores family.now) (F.dictionary family.now)) (kept_by self.now) }
+        ensures { IfOk result (λ sums. HasSums (F.M.valid (F.dictionary family.now key.now.store)) upto (online_sum (λ store. F.M.add (F.dictionary family.now store)) self.now key.now) sums) }
+    {
+        let published = self.published();
+        let sums = gather(alloc, family.monoid(key.store), self.parts(), key, published, upto)?;
+        Ok(Sums::from_vec(sums))
+    }
 }
 
 // Puts the chunks into the cover. One chunk takes constant time where it comes after all others.
@@ -140,5 +217,16 @@ fn sweep<E: Drop>(parts: &mut Vec<Part<E>>, published: u64)
 {
     if published.is_power_of_two() {
         keep_from(parts, published);
+    }
+}
+
+// The rows of the batches up to one.
+fn rows_up_to<E>(rows: &[RowList<E>], upto: u64) -> &[RowList<E>]
+    ensures { result.now ≡ take (upto + 1) rows.now }
+{
+    if upto < rows.len() as u64 {
+        &rows[..upto as usize + 1]
+    } else {
+        rows
     }
 }
