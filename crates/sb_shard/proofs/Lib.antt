@@ -2,3 +2,4 @@ pub mod Placing
 pub mod Gathered
 pub mod Events
 pub mod Asked
+pub mod KeySets

@@ -3,6 +3,7 @@
 
 mod answer;
 mod gathering;
+mod key_set;
 mod shard;
 
 pub use answer::{Answer, AskError};
