@@ -101,6 +101,14 @@ new_folds {E} stores add job own = record {
     if_none true = refl
     if_none false = refl
 
+-- what is kept after a flush is valid
+pub flushed_valid : {E : Type 0} (d : Dictionaries E) (parcel : Parcel E) (h : Held E) → AreValid d (kept_by h) → AreValid d (elements parcel.parts) → AreValid d (kept_by (flushed h parcel))
+flushed_valid d parcel h kept parts =
+    let late = parts_from (length h.rows) parcel.parts in
+    valid_append _ (elements (h.parts ++ late)) (flat_map (λ rows. rows) h.rows)
+    (elements_append d h.parts late (valid_left _ (elements h.parts) (flat_map (λ rows. rows) h.rows) kept) (elements_filter d (λ part. nat_le (length h.rows) part.batch) parcel.parts parts))
+    (valid_right _ (elements h.parts) (flat_map (λ rows. rows) h.rows) kept)
+
 module _ {E : Type 0} (d : Dictionaries E) (parcel : Parcel E) (h : Held E) (job : Job E) (own : KeyBytes → Bool) (commute : Commute d) (valid : IsJobOf d job) (of : IsParcelOf d job own parcel) (fresh : ShareNone h.cover parcel.chunks) (stands : StandsBy d job own (shard_sums d.add h)) where
   if_both : (add : E → E → E) (t : Bool) (a b : Option E) → cond t (both_sums add a (cond t b None)) None ≡ both_sums add (cond t a None) (cond t b None)
   if_both add true a b = refl
@@ -139,9 +147,7 @@ module _ {E : Type 0} (d : Dictionaries E) (parcel : Parcel E) (h : Held E) (job
       published = stands.folds.published;
       online = flushed_online;
     };
-    valid = valid_append _ (elements (h.parts ++ parts_from (length h.rows) parcel.parts)) (flat_map (λ rows. rows) h.rows)
-      (elements_append d h.parts (parts_from (length h.rows) parcel.parts) parts_valid (elements_filter d (λ part. nat_le (length h.rows) part.batch) parcel.parts of.valid))
-      (valid_right _ (elements h.parts) (flat_map (λ rows. rows) h.rows) stands.valid);
+    valid = flushed_valid d parcel h stands.valid of.valid;
   }
 
 last_place : {A : Type 0} (xs : List (List A)) (x : List A) → get_or (xs ++ x ∷ []) (length xs) [] ≡ x

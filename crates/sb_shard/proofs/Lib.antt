@@ -3,3 +3,4 @@ pub mod Gathered
 pub mod Events
 pub mod Asked
 pub mod KeySets
+pub mod HeldKeys

@@ -1,9 +1,9 @@
 -- What a shard answers.
-use Rattle.std.specs.Prelude.{◌≡◌, ◌⊎◌, ◌↔◌, ℕ, List, [], ◌∷◌, Contains, IsSome}
-use Rattle.std.specs.List.{AllByRecursion}
-use Rattle.std.specs.declared.cmp.Ordering.TheVariants.{Less}
+use Rattle.std.specs.Prelude.{◌≡◌, ◌⊎◌, ◌↔◌, ℕ, List, IsSome, IsTrue}
+use Rattle.std.specs.List.{list_any}
+use Rattle.std.specs.List.Sorted.{IsStrictlySortedBy}
 use Rattle.sb_feed.specs.declared.key.KeyBytes.{KeyBytes}
-use Rattle.sb_feed.specs.Keys.{key_order}
+use Rattle.sb_feed.specs.Keys.{key_order, same_key}
 use Rattle.sb_feed.specs.Stands.{ShardSums, HasSums}
 use Rattle.sb_shard.specs.declared.answer.Answer.{Answer}
 
@@ -20,12 +20,7 @@ pub record Answers {E : Type 0} (V : E → Type 0) (s : ShardSums E) (key : KeyB
 abbrev pub HasSum : {E : Type 0} → ShardSums E → KeyBytes → Type 0
 HasSum s key = IsSome (s.base key) ⊎ (((j : ℕ) × IsSome (s.published key j)) ⊎ ((j : ℕ) × IsSome (s.online key j)))
 
--- each key is below all that follow it
-abbrev pub AreRising : List KeyBytes → Type 0
-AreRising [] = Unit {0}
-AreRising (key ∷ keys) = AllByRecursion (λ later. key_order key later ≡ Less) keys × AreRising keys
-
 -- exactly the keys with a sum, rising
 pub record HasKeys {E : Type 0} (s : ShardSums E) (keys : List KeyBytes) : Type 0 where
-  pub rising : AreRising keys
-  pub each : (key : KeyBytes) → Contains keys key ↔ HasSum s key
+  pub rising : IsStrictlySortedBy key_order keys
+  pub each : (key : KeyBytes) → IsTrue (list_any (same_key key) keys) ↔ HasSum s key

@@ -67,8 +67,7 @@ fn put_key(alloc: Global, keys: &mut BTreeSet<KeyBytes>, key: &KeyBytes) -> Resu
 
 /// The keys of the set in rising order.
 pub fn keys_of(alloc: Global, keys: BTreeSet<KeyBytes>) -> Result<Vec<KeyBytes>, NoMemory>
-    ensures keys { IfOk result (λ list. list.items ≡ keys.keys) }
-    ensures rising { IfOk result (λ list. IsStrictlySortedBy key_order list.items) }
+    ensures { IfOk result (λ list. (list.items ≡ keys.keys) × IsStrictlySortedBy key_order list.items) }
 {
     let mut list = Vec::with_capacity(alloc, keys.len())?;
     for key in keys {

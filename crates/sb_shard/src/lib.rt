@@ -9,3 +9,6 @@ mod shard;
 pub use answer::{Answer, AskError};
 pub use sb_laws::NoMemory;
 pub use shard::Shard;
+
+#[cfg(test)]
+mod tests;

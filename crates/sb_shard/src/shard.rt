@@ -3,15 +3,17 @@ ghost use Rattle.sb_text.specs.Ranges.{union};
 ghost use Rattle.sb_feed.specs.Jobs.{Job, AreValid, dictionaries};
 ghost use Rattle.sb_feed.specs.Stands.{elements, AreFoldsOf, HasSums};
 ghost use Rattle.sb_shard.specs.Shards.{cover_of, published_to, floor_of, kept_by, published_sum, online_sum, shard_sums};
-ghost use Rattle.sb_shard.specs.Asks.{Answers};
+ghost use Rattle.sb_shard.specs.Asks.{Answers, HasKeys};
 ghost use Rattle.sb_shard.specs.Events.{ShareNone, FlushKeeps, InstallKeeps, KeepsOnly, parts_from, flushed, AreSwept, IsInstalled};
 
 use crate::answer::{Answer, AskError};
 use crate::gathering::{gather, gather_rows};
+use crate::key_set::{keys_of, put_part_keys, put_row_keys};
 use sb_feed::{Family, KeyBytes, Parcel, Part, RowList, Rows, Sums};
 use sb_laws::{NoMemory, Semigroup};
 use sb_text::Ranges;
 use std::alloc::Global;
+use std::collections::BTreeSet;
 use std::marker::Model;
 
 /// The sums of a shard's keys. A batch is published, and then its sums are the rows that were installed, or online, and
@@ -74,6 +76,7 @@ impl<E: Drop> Shard<E> {
         requires parts { AreValid (dictionaries F.M.valid F.M.add (F.stores family.now) (F.dictionary family.now)) (elements parcel.parts) }
         ensures cover { OnOk result (cover_of self.new ≡ union (cover_of self.old) parcel.chunks) }
         ensures numbers { OnOk result ((published_to self.new ≡ published_to self.old) × (floor_of self.new ≡ floor_of self.old)) }
+        ensures valid { OnOk result (AreValid (dictionaries F.M.valid F.M.add (F.stores family.now) (F.dictionary family.now)) (kept_by self.new)) }
         ensures stands { OnOk result (FlushKeeps (dictionaries F.M.valid F.M.add (F.stores family.now) (F.dictionary family.now)) parcel self.old self.new) }
         ensures err { OnErr result (self.new ≡ self.old) }
     {
@@ -148,6 +151,16 @@ impl<E: Drop> Shard<E> {
         })
     }
 
+    /// The keys with a sum, each once and in rising order.
+    pub fn keys(&self, alloc: Global) -> Result<Vec<KeyBytes>, NoMemory>
+        ensures { IfOk result (λ keys. (add : ℕ → E → E → E) → HasKeys (shard_sums add self.now) keys.items) }
+    {
+        let mut keys = BTreeSet::new(alloc);
+        put_row_keys(alloc, &mut keys, self.rows())?;
+        put_part_keys(alloc, &mut keys, self.parts(), self.published())?;
+        keys_of(alloc, keys)
+    }
+
     fn parts(&self) -> &[Part<E>]
         ensures { result.now ≡ self.now.parts }
     {
@@ -202,7 +215,10 @@ fn cover_more(cover: &mut Ranges, chunks: &Ranges) -> Result<(), NoMemory>
     ensures ok { OnOk result (cover.new ≡ union cover.old chunks.now) }
     ensures err { OnErr result (cover.new ≡ cover.old) }
 {
-    cover.union(chunks)
+    match chunks.as_slice() {
+        [chunk] => cover.insert(*chunk),
+        _ => cover.union(chunks),
+    }
 }
 
 fn keep_from<E: Drop>(parts: &mut Vec<Part<E>>, published: u64)
