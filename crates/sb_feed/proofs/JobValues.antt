@@ -1,5 +1,5 @@
 -- The values of a key in a job are its store's.
-use Rattle.std.proofs.Common.{◌≡◌, ℕ, suc, true, false, cond, List, [], ◌∷◌, ◌++◌, map, filter, sym, refl, subst}
+use Rattle.std.proofs.Common.{◌≡◌, ℕ, suc, true, false, cond, List, [], ◌∷◌, map, filter, sym, refl, subst}
 use Rattle.std.specs.List.{AllByRecursion}
 use Rattle.sb_laws.specs.Tables.{values_at}
 use Rattle.sb_laws.proofs.Sums.{valid_append}

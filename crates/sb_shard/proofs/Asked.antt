@@ -1,17 +1,15 @@
 -- What is gathered from rows and parts has the sums of a key up to a batch.
-use Rattle.std.proofs.Common.{◌≡◌, ℕ, zero, suc, ◌+◌, ◌<◌, ◌≤◌, Bool, true, false, cond, ◌&&◌, List, [], ◌∷◌, ◌++◌, map, filter, length, get_or, take, Option, Some, None, refl, sym, ap, subst, ◌∙◌, T, IsTrue, arith}
+use Rattle.std.proofs.Common.{◌≡◌, ℕ, zero, suc, ◌+◌, ◌<◌, Bool, true, false, cond, ◌&&◌, List, [], ◌∷◌, map, filter, length, get_or, take, Option, Some, None, refl, sym, ap, subst, ◌∙◌, T, arith}
 use Rattle.std.specs.Prelude.{nat_lt, nat_le, ◌==◌}
 use Rattle.std.specs.List.{AllByRecursion, flat_map}
-use Rattle.std.specs.declared.cmp.Ordering.TheVariants.{Less, Equal, Greater}
 use Rattle.std.specs.Ordering.{nat_cmp, is_lt, eq_by_cmp}
 use Rattle.std.specs.Cmp.{nat_cmp_total, unsigned_tied}
 use Rattle.std.specs.FinMap.{find, is_sorted}
 use Rattle.std.specs.FinMap.Entries.{below_all}
 use Rattle.std.proofs.lemmas.Bool.Decides.{nat_tests}
-use Rattle.std.proofs.lemmas.Bool.{eqb-true}
 use Rattle.sb_laws.specs.Sums.{sum_of, IsValid}
 use Rattle.sb_laws.specs.Folds.{fold_over}
-use Rattle.sb_laws.specs.Tables.{fold_at, AreFolds, add_all}
+use Rattle.sb_laws.specs.Tables.{fold_at, add_all}
 use Rattle.sb_laws.proofs.Sums.{valid_left, valid_right}
 use Rattle.sb_laws.proofs.Positions.{filter_same}
 use Rattle.sb_laws.proofs.Tables.{all_added_are_folds, valid_add_all, both, is_true}

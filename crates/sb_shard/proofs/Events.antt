@@ -1,15 +1,15 @@
 -- A new shard, a flush and an installation.
-use Rattle.std.proofs.Common.{◌≡◌, ◌⊎◌, inl, inr, ℕ, zero, suc, ◌+◌, ◌<◌, ◌≤◌, Bool, true, false, cond, ◌&&◌, ◌||◌, List, [], ◌∷◌, ◌++◌, length, get_or, Option, None, refl, sym, ap, subst, ◌∙◌, append-nil, map, filter, arith}
+use Rattle.std.proofs.Common.{◌≡◌, ◌⊎◌, inl, inr, ℕ, zero, suc, ◌+◌, ◌<◌, ◌≤◌, Bool, true, false, cond, ◌&&◌, ◌||◌, List, [], ◌∷◌, ◌++◌, length, get_or, Option, None, refl, sym, ap, subst, ◌∙◌, append-nil, filter, arith}
 use Rattle.std.specs.Prelude.{nat_lt, nat_le, ◌==◌, Contains}
-use Rattle.std.specs.List.{AllByRecursion, flat_map}
+use Rattle.std.specs.List.{flat_map}
 use Rattle.std.specs.FinMap.{find}
 use Rattle.std.proofs.lemmas.List.{length-append}
 use Rattle.std.proofs.lemmas.List.Elements.{Contains-append_left, Contains-append_right, Contains-append_cases}
 use Rattle.std.proofs.lemmas.Grind.{flat_map-append}
 use Rattle.std.proofs.lemmas.Bool.Decides.{nat_tests}
 use Rattle.sb_text.specs.Ranges.{put, union}
-use Rattle.sb_laws.specs.Sums.{both_sums, CommutingLaws}
-use Rattle.sb_laws.specs.Folds.{fold_over, IsSplit}
+use Rattle.sb_laws.specs.Sums.{both_sums}
+use Rattle.sb_laws.specs.Folds.{IsSplit}
 use Rattle.sb_laws.proofs.Sums.{valid_append, valid_left, valid_right}
 use Rattle.sb_laws.proofs.Positions.{ap_both, fold_same, fold_none, fold_if, fold_splits}
 use Rattle.sb_laws.proofs.Sets.{split_and, split_or}
@@ -19,11 +19,11 @@ use Rattle.sb_feed.specs.declared.parts.Parcel.{Parcel}
 use Rattle.sb_feed.specs.declared.parts.Rows.{Rows}
 use Rattle.sb_feed.specs.Keys.{key_order}
 use Rattle.sb_feed.specs.Jobs.{Job, Dictionaries, Commute, IsJobOf, AreValid, batch_count, batch_of, chunk_of, of_key, fold_of, is_in}
-use Rattle.sb_feed.specs.Stands.{sum_at, elements, ShardSums, AreFoldsOf, StandsBy, IsParcelOf, AreRowsBy}
+use Rattle.sb_feed.specs.Stands.{sum_at, elements, AreFoldsOf, StandsBy, IsParcelOf, AreRowsBy}
 use Rattle.sb_feed.proofs.PartSums.{sum_filter, sum_both, elements_append, elements_filter}
 use Rattle.sb_feed.proofs.JobValues.{of_key_valid}
-use Rattle.sb_shard.specs.Shards.{Held, shard_sums, published_to, kept_by}
-use Rattle.sb_shard.specs.Events.{ShareNone, FlushKeeps, InstallKeeps, KeepsOnly, parts_from, flushed, AreSwept, IsInstalled}
+use Rattle.sb_shard.specs.Shards.{Held, shard_sums, kept_by}
+use Rattle.sb_shard.specs.Events.{ShareNone, parts_from, flushed, AreSwept, IsInstalled}
 
 or_again : (a b : Bool) → (a || b) ≡ (a || (a || b))
 or_again true b = refl

@@ -1,5 +1,5 @@
 -- Parts gathered into a table, one after the other.
-use Rattle.std.proofs.Common.{◌≡◌, ℕ, ◌+◌, ◌<◌, Bool, true, false, cond, List, [], ◌∷◌, ◌++◌, map, filter, length, drop, get_or, refl, sym, ap, subst, ◌∙◌, IsTrue}
+use Rattle.std.proofs.Common.{◌≡◌, ℕ, ◌+◌, ◌<◌, true, false, cond, List, [], ◌∷◌, ◌++◌, map, filter, length, drop, get_or, refl, sym, ap, subst, ◌∙◌, IsTrue}
 use Rattle.std.specs.List.{AllByRecursion}
 use Rattle.std.specs.Ordering.{nat_cmp}
 use Rattle.std.specs.Cmp.{nat_cmp_total}
@@ -37,7 +37,7 @@ module _ {E : Type 0} (V : E → Type 0) (add : E → E → E) (keeps : (a b : E
       let one = asked key from upto (part ∷ []) in
       let more = asked key from upto (drop (i + 1) parts) in
       let step : asked key from upto (drop i parts) ≡ one ++ more =
-          ap (asked key from upto) (drop_more parts i part h ∙ ap (λ p. p ∷ drop (i + 1) parts) (sym is)) ∙ asked_first part (drop (i + 1) parts) in
+      ap (asked key from upto) (drop_more parts i part h ∙ ap (λ p. p ∷ drop (i + 1) parts) (sym is)) ∙ asked_first part (drop (i + 1) parts) in
       let valid = subst (AllByRecursion (λ (pair : ℕ × E). V pair.1)) step before.later in
       record {
         rest = ap (λ t. add_all nat_cmp add t more) e ∙ (sym (add_all_append add table one more) ∙ (sym (ap (add_all nat_cmp add table) step) ∙ before.rest));

@@ -1,5 +1,5 @@
 -- The keys of rows and of parts that count are the keys with a sum.
-use Rattle.std.proofs.Common.{◌≡◌, ◌⊎◌, inl, inr, ℕ, zero, suc, Bool, true, false, cond, ◌&&◌, ◌||◌, List, [], ◌∷◌, map, filter, length, get_or, Option, Some, None, refl, sym, ap, subst, ◌∙◌, arith}
+use Rattle.std.proofs.Common.{◌≡◌, ◌⊎◌, inl, inr, ℕ, zero, suc, Bool, true, false, cond, ◌&&◌, ◌||◌, List, [], ◌∷◌, map, filter, length, get_or, Some, None, refl, sym, ap, ◌∙◌, arith}
 use Rattle.std.specs.Prelude.{nat_le, ◌==◌, is_some, IsSome, IsTrue, ◌↔◌}
 use Rattle.std.specs.List.{list_any}
 use Rattle.std.specs.List.Sorted.{IsStrictlySortedBy}
@@ -104,9 +104,11 @@ module _ {E : Type 0} (q : KeyBytes) where
     of_part e =
         let p = any_passes (λ (part : Part E). same_key q part.key && nat_le (length held.rows) part.batch) held.parts e in
         let is = both_true (same_key q p.one.key) (nat_le (length held.rows) p.one.batch) p.passes in
-        let same : (p.one.batch == p.one.batch) ≡ true = grind (arith, nat_tests) in
-        (p.one.batch, ap (λ t. is_some (cond t (sum_at add q p.one.batch held.parts) None)) is.1
-        ∙ (some_sum add p.one.batch held.parts ∙ p.there (λ part. same_key q part.key && (part.batch == p.one.batch)) (together (same_key q p.one.key) (p.one.batch == p.one.batch) is.0 same)))
+        let same : (p.one.batch == p.one.batch) ≡ true = grind (arith, nat_tests) in (
+          p.one.batch,
+          ap (λ t. is_some (cond t (sum_at add q p.one.batch held.parts) None)) is.1
+              ∙ (some_sum add p.one.batch held.parts ∙ p.there (λ part. same_key q part.key && (part.batch == p.one.batch)) (together (same_key q p.one.key) (p.one.batch == p.one.batch) is.0 same)),
+        )
 
     part_of : (j : ℕ) → IsSome (online_sum add held q j) → list_any (λ part. same_key q part.key && nat_le (length held.rows) part.batch) held.parts ≡ true
     part_of j e = tested (nat_le (length held.rows) j) refl e

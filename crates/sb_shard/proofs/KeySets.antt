@@ -1,9 +1,9 @@
 -- Keys put into a set.
-use Rattle.std.proofs.Common.{◌≡◌, Bool, true, false, cond, ◌||◌, List, refl, sym, ap, ◌∙◌}
+use Rattle.std.proofs.Common.{◌≡◌, Bool, true, false, cond, ◌||◌, List, refl, ap, ◌∙◌}
 use Rattle.std.specs.List.{list_any}
 use Rattle.std.specs.Cmp.{eq_by_cmp_equiv}
 use Rattle.sb_feed.specs.declared.key.KeyBytes.{KeyBytes}
-use Rattle.sb_feed.specs.Keys.{key_order, same_key}
+use Rattle.sb_feed.specs.Keys.{same_key}
 use Rattle.sb_feed.proofs.KeyTies.{key_order_total}
 use Rattle.sb_feed.proofs.PartSums.{same_is_equal}
 

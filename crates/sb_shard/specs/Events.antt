@@ -6,7 +6,7 @@ use Rattle.sb_feed.specs.declared.key.KeyBytes.{KeyBytes}
 use Rattle.sb_feed.specs.declared.parts.Parcel.{Parcel}
 use Rattle.sb_feed.specs.declared.parts.Rows.{Rows}
 use Rattle.sb_feed.specs.Jobs.{Job, Dictionaries, Commute, IsJobOf, batch_count, is_in}
-use Rattle.sb_feed.specs.Stands.{ShardSums, AreFoldsOf, StandsBy, IsParcelOf, AreRowsBy}
+use Rattle.sb_feed.specs.Stands.{AreFoldsOf, StandsBy, IsParcelOf, AreRowsBy}
 use Rattle.sb_shard.specs.Shards.{Held, shard_sums, published_to, kept_by}
 
 -- no number is in both

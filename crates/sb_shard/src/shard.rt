@@ -117,7 +117,11 @@ impl<E: Drop> Shard<E> {
         ensures ok { OnOk result (IsInstalled rows self.old self.new) }
         ensures err { OnErr result (self.new ≡ self.old) }
     {
-        let Rows { from: _, to: _, rows } = rows;
+        let Rows {
+            from: _,
+            to: _,
+            rows,
+        } = rows;
         self.rows.push(rows)?;
         let published = self.rows.len() as u64;
         sweep(&mut self.parts, published);
@@ -205,7 +209,14 @@ impl<E: Drop> Shard<E> {
         ensures { IfOk result (λ sums. HasSums (F.M.valid (F.dictionary family.now key.now.store)) upto (online_sum (λ store. F.M.add (F.dictionary family.now store)) self.now key.now) sums) }
     {
         let published = self.published();
-        let sums = gather(alloc, family.monoid(key.store), self.parts(), key, published, upto)?;
+        let sums = gather(
+            alloc,
+            family.monoid(key.store),
+            self.parts(),
+            key,
+            published,
+            upto,
+        )?;
         Ok(Sums::from_vec(sums))
     }
 }

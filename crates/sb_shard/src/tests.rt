@@ -74,7 +74,13 @@ fn key(alloc: Global, bytes: &[u8]) -> Result<KeyBytes, Fail>
 }
 
 // A parcel for one chunk with one part.
-fn parcel(alloc: Global, chunk: u64, key: KeyBytes, batch: u64, value: u64) -> Result<Parcel<u64>, NoMemory>
+fn parcel(
+    alloc: Global,
+    chunk: u64,
+    key: KeyBytes,
+    batch: u64,
+    value: u64,
+) -> Result<Parcel<u64>, NoMemory>
     requires { chunk < 2 ^ 32 }
     ensures chunks { IfOk result (λ parcel. parcel.chunks ≡ chunk ∷ []) }
     ensures parts { IfOk result (λ parcel. parcel.parts ≡ record { key = key; batch = batch; value = value } ∷ []) }

@@ -1,4 +1,4 @@
-use Rattle.std.proofs.Common.{◌≡◌, ap, subst, ◌∙◌, set}
+use Rattle.std.proofs.Common.{ap, subst, ◌∙◌, set}
 use Rattle.std.proofs.lemmas.Result.{on_ok_weaker}
 use Rattle.sb_shard.specs.Gathering.{IsHere, IsGap}
 use Rattle.sb_shard.proofs.Placing.{added_there, added_between}

@@ -1,7 +1,5 @@
-use Rattle.std.proofs.Common.{ap, sym, ◌∙◌}
+use Rattle.std.proofs.Common.{sym, ◌∙◌}
 use Rattle.std.specs.List.{flat_map}
-use Rattle.std.specs.Ordering.{nat_cmp}
-use Rattle.sb_laws.specs.Tables.{add_all}
 use Rattle.sb_laws.proofs.Sums.{valid_left}
 use Rattle.sb_feed.specs.Jobs.{dictionaries}
 use Rattle.sb_feed.specs.Stands.{elements}
