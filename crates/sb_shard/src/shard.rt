@@ -88,10 +88,10 @@ impl<E: Drop> Shard<E> {
         ensures ok { OnOk result (self.new ≡ flushed self.old parcel) }
         ensures err { OnErr result (self.new ≡ self.old) }
     {
-        let published = self.published();
+        let next = self.published();
         let Parcel { chunks, parts } = parcel;
         let mut parts = parts.into_vec();
-        keep_from(&mut parts, published);
+        keep_from(&mut parts, next);
         self.parts.reserve(parts.len())?;
         cover_more(&mut self.cover, &chunks)?;
         self.parts.append(&mut parts)?;
