@@ -4,3 +4,4 @@ pub mod Events
 pub mod Asked
 pub mod KeySets
 pub mod HeldKeys
+pub mod Merged

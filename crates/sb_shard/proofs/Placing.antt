@@ -52,8 +52,8 @@ module _ {E : Type 0} where
   all_before k [] at d h within less = absurd (omega arith)
   all_before k (x ∷ xs) zero d h within less = (less, tt)
   all_before k (x ∷ xs) (suc at) d h within less =
-      let rest = all_before k xs at d (second _ _ h) (omega arith) less in
-      (omega (arith, less, below_at x.0 xs at d (first _ _ h) (omega arith)), rest)
+      let above = below_at x.0 xs at d (first _ _ h) (omega (arith, within)) in
+      (omega (arith, less, above), all_before k xs at d (second _ _ h) (omega (arith, within)) less)
     where
       below_at : (n : ℕ) (ys : List (ℕ × E)) (i : ℕ) (e : ℕ × E) → T (below_all nat_cmp n ys) → i < length ys → n < (get_or ys i e).0
       below_at n [] i e h w = absurd (omega arith)

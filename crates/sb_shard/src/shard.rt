@@ -3,7 +3,7 @@ ghost use Rattle.sb_text.specs.Ranges.{union};
 ghost use Rattle.sb_feed.specs.Jobs.{Job, AreValid, dictionaries};
 ghost use Rattle.sb_feed.specs.Stands.{elements, AreFoldsOf, HasSums};
 ghost use Rattle.sb_shard.specs.Shards.{cover_of, published_to, floor_of, kept_by, published_sum, online_sum, shard_sums};
-ghost use Rattle.sb_shard.specs.Asks.{Answers, HasKeys};
+ghost use Rattle.sb_shard.specs.Asks.{Answers, values_of, MakesNamed, HasKeys};
 ghost use Rattle.sb_shard.specs.Events.{ShareNone, FlushKeeps, InstallKeeps, KeepsOnly, parts_from, flushed, AreSwept, IsInstalled};
 
 use crate::answer::{Answer, AskError};
@@ -140,19 +140,11 @@ impl<E: Drop> Shard<E> {
         F::M: Semigroup<El = E>,
         requires store { key.now.store < F.stores family.now }
         requires kept { AreValid (dictionaries F.M.valid F.M.add (F.stores family.now) (F.dictionary family.now)) (kept_by self.now) }
-        ensures { IfOk result (λ answer. Answers (F.M.valid (F.dictionary family.now key.now.store)) (shard_sums (λ store. F.M.add (F.dictionary family.now store)) self.now) key.now upto answer) }
+        ensures sums { IfOk result (λ answer. Answers (F.M.valid (F.dictionary family.now key.now.store)) (shard_sums (λ store. F.M.add (F.dictionary family.now store)) self.now) key.now upto answer) }
+        ensures named { IfOk result (λ answer. MakesNamed (dictionaries F.M.valid F.M.add (F.stores family.now) (F.dictionary family.now)) self.now key.now upto (values_of answer)) }
     {
-        let published = self.published_sums(alloc, family, key, upto)?;
-        let online = self.online_sums(alloc, family, key, upto)?;
-        let cover = self.cover.copy()?;
-        Ok(Answer {
-            base: None,
-            published,
-            online,
-            cover,
-            published_to: self.published(),
-            floor: 0,
-        })
+        let answer = self.answer(alloc, family, key, upto)?;
+        Ok(answer)
     }
 
     /// The keys with a sum, each once and in rising order.
@@ -175,6 +167,33 @@ impl<E: Drop> Shard<E> {
         ensures { result.now ≡ self.now.rows }
     {
         self.rows.as_slice()
+    }
+
+    // What is held of a key.
+    fn answer<F: Family>(
+        &self,
+        alloc: Global,
+        family: &F,
+        key: &KeyBytes,
+        upto: u64,
+    ) -> Result<Answer<E>, NoMemory>
+    where
+        F::M: Semigroup<El = E>,
+        requires store { key.now.store < F.stores family.now }
+        requires kept { AreValid (dictionaries F.M.valid F.M.add (F.stores family.now) (F.dictionary family.now)) (kept_by self.now) }
+        ensures { IfOk result (λ answer. Answers (F.M.valid (F.dictionary family.now key.now.store)) (shard_sums (λ store. F.M.add (F.dictionary family.now store)) self.now) key.now upto answer) }
+    {
+        let published = self.published_sums(alloc, family, key, upto)?;
+        let online = self.online_sums(alloc, family, key, upto)?;
+        let cover = self.cover.copy()?;
+        Ok(Answer {
+            base: None,
+            published,
+            online,
+            cover,
+            published_to: self.published(),
+            floor: 0,
+        })
     }
 
     fn published_sums<F: Family>(
