@@ -1,9 +1,8 @@
 -- Three records, two keys, two batches: folds, and sums that stand for the job and that don't.
-use Rattle.std.proofs.Common.{◌≡◌, ℕ, ◌+◌, Bool, true, ◌&&◌, ◌||◌, List, [], ◌∷◌, Option, Some, None, refl, arith}
+use Rattle.std.proofs.Common.{◌≡◌, ℕ, ◌+◌, true, ◌&&◌, ◌||◌, List, [], ◌∷◌, Option, Some, None, refl, arith}
 use Rattle.std.specs.Prelude.{◌==◌, codes}
 use Rattle.sb_feed.specs.declared.key.KeyBytes.{KeyBytes}
 use Rattle.sb_feed.specs.declared.parts.Part.{Part}
-use Rattle.sb_feed.specs.Keys.{key_hash}
 use Rattle.sb_feed.specs.Jobs.{Job, batch_count, batch_of, chunk_of, fold_of, is_in, is_named}
 use Rattle.sb_feed.specs.Stands.{sum_at, ShardSums, AreFoldsOf}
 

@@ -1,2 +1,4 @@
+pub mod KeyTies
 pub mod PartSums
 pub mod Examples
+pub mod JobValues

@@ -1,11 +1,11 @@
 -- Sums of parts by key and batch: of two lists in a row, and of the parts of some batches.
-use Rattle.std.proofs.Common.{◌≡◌, ℕ, Bool, true, false, cond, ◌&&◌, List, [], ◌∷◌, ◌++◌, map, filter, Option, None, refl, sym, ap, subst, ◌∙◌}
+use Rattle.std.proofs.Common.{◌≡◌, ℕ, Bool, true, false, cond, ◌&&◌, List, [], ◌∷◌, ◌++◌, map, filter, None, refl, sym, ap, subst, ◌∙◌}
 use Rattle.std.specs.Prelude.{◌==◌}
 use Rattle.std.specs.List.{AllByRecursion}
 use Rattle.std.proofs.lemmas.List.{map-append}
 use Rattle.std.proofs.lemmas.List.Elements.{filter-append}
 use Rattle.std.proofs.lemmas.Bool.{eqb-true}
-use Rattle.sb_laws.specs.Sums.{sum_of, both_sums, IsValid, SemigroupLaws}
+use Rattle.sb_laws.specs.Sums.{sum_of, both_sums, SemigroupLaws}
 use Rattle.sb_laws.specs.Folds.{fold_over}
 use Rattle.sb_laws.proofs.Sums.{sum_append}
 use Rattle.sb_laws.proofs.Positions.{fold_same, fold_if, kept_valid}

@@ -1,5 +1,5 @@
 -- How records are divided into chunks and keys into shards.
-use Rattle.std.specs.Prelude.{ℕ, ◌+◌, ◌-◌, ◌/◌, ◌^◌, ◌≤◌}
+use Rattle.std.specs.Prelude.{ℕ, ◌^◌, ◌≤◌}
 use Rattle.std.specs.Int.{div_ceil}
 
 -- the number of records, that of a chunk's records, and that of shards

@@ -1,0 +1,48 @@
+-- What a flush and an installation keep of what a shard stands for.
+use Rattle.std.specs.Prelude.{◌≡◌, ◌⊎◌, ℕ, ◌<◌, Bool, false, ◌&&◌, nat_le, List, [], ◌∷◌, ◌++◌, filter, Contains}
+use Rattle.sb_text.specs.Ranges.{union}
+use Rattle.sb_feed.specs.declared.parts.Part.{Part}
+use Rattle.sb_feed.specs.declared.key.KeyBytes.{KeyBytes}
+use Rattle.sb_feed.specs.declared.parts.Parcel.{Parcel}
+use Rattle.sb_feed.specs.declared.parts.Rows.{Rows}
+use Rattle.sb_feed.specs.Jobs.{Job, Dictionaries, Commute, IsJobOf, batch_count, is_in}
+use Rattle.sb_feed.specs.Stands.{AreFoldsOf, StandsBy, IsParcelOf, AreRowsBy}
+use Rattle.sb_shard.specs.Shards.{Held, shard_sums, published_to, kept_by}
+
+-- no number is in both
+abbrev pub ShareNone : List ℕ → List ℕ → Type 0
+ShareNone xs ys = (n : ℕ) → (is_in xs n && is_in ys n) ≡ false
+
+-- whatever commuting job the shard stood for, it stands for it after a parcel of it
+abbrev pub FlushKeeps : {E : Type 0} → Dictionaries E → Parcel E → Held E → Held E → Type 0
+FlushKeeps {E} d parcel before after =
+    (job : Job E) (own : KeyBytes → Bool) → Commute d → IsJobOf d job → IsParcelOf d job own parcel
+    → StandsBy d job own (shard_sums d.add before) → StandsBy d job own (shard_sums d.add after)
+
+-- whatever folds the shard's sums were, they are so after the rows of the next batch
+abbrev pub InstallKeeps : {E : Type 0} → Rows E → Held E → Held E → Type 0
+InstallKeeps {E} rows before after =
+    (stores : ℕ) (add : ℕ → E → E → E) (job : Job E) (own : KeyBytes → Bool) → AreRowsBy stores add job own rows → published_to before < batch_count job.records
+    → AreFoldsOf stores add job own (shard_sums add before) → AreFoldsOf stores add job own (shard_sums add after)
+
+-- what is kept after an installation was kept before, or is one of the rows
+abbrev pub KeepsOnly : {E : Type 0} → Rows E → Held E → Held E → Type 0
+KeepsOnly {E} rows before after = (row : KeyBytes × E) → Contains (kept_by after) row → Contains (kept_by before) row ⊎ Contains rows.rows row
+
+-- the parts of the batches from one on
+abbrev pub parts_from : {E : Type 0} → ℕ → List (Part E) → List (Part E)
+parts_from p parts = filter (λ part. nat_le p part.batch) parts
+
+-- what is kept after a flush
+abbrev pub flushed : {E : Type 0} → Held E → Parcel E → Held E
+flushed held parcel = record held { parts = held.parts ++ parts_from (published_to held) parcel.parts; cover = union held.cover parcel.chunks }
+
+-- the parts are as before, or without those of the batches below p
+abbrev pub AreSwept : {E : Type 0} → ℕ → List (Part E) → List (Part E) → Type 0
+AreSwept p before after = (after ≡ before) ⊎ (after ≡ parts_from p before)
+
+-- what is kept after an installation
+pub record IsInstalled {E : Type 0} (next : Rows E) (before after : Held E) : Type 0 where
+  pub rows : after.rows ≡ before.rows ++ next.rows ∷ []
+  pub parts : AreSwept (published_to after) before.parts after.parts
+  pub cover : after.cover ≡ before.cover

@@ -1,0 +1,4 @@
+pub mod Shards
+pub mod Events
+pub mod Asks
+pub mod Gathering

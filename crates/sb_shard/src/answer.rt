@@ -1,0 +1,31 @@
+use sb_feed::Sums;
+use sb_laws::NoMemory;
+use sb_text::Ranges;
+
+/// What a shard holds of a key: its base, and one sum a batch. The base has the batches below the floor.
+#[derive(Debug, Drop)]
+pub struct Answer<E> {
+    pub base: Option<E>,
+    pub published: Sums<E>,
+    pub online: Sums<E>,
+    pub cover: Ranges,
+    pub published_to: u64,
+    pub floor: u64,
+}
+
+/// Why a shard gives no answer.
+#[derive(Clone, Copy, Debug, PartialEq, Eq)]
+pub enum AskError {
+    NoMemory,
+}
+
+impl From<NoMemory> for AskError {
+    ghost use Rattle.std.specs.Prelude.{◌≡◌};
+    ghost use Rattle.sb_shard.specs.declared.answer.AskError.TheVariants.{NoMemory as no_memory};
+
+    ghost from_gives = { λ _ e. e ≡ no_memory };
+
+    fn from(_: NoMemory) -> AskError {
+        AskError::NoMemory
+    }
+}

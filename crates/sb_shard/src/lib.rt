@@ -1,0 +1,14 @@
+//! A shard: the sums of some keys by batch, published or online, and the chunks that they cover.
+#![tactic(auto)]
+
+mod answer;
+mod gathering;
+mod key_set;
+mod shard;
+
+pub use answer::{Answer, AskError};
+pub use sb_laws::NoMemory;
+pub use shard::Shard;
+
+#[cfg(test)]
+mod tests;
