@@ -1,22 +1,22 @@
 -- The cause of a fault, seen from the whole call.
-use Rattle.std.proofs.Common.{ℕ, ◌≤◌, List, arith}
-use Rattle.sb_run.specs.Gathering.{IsCaused, IsCausedAt}
+use Rattle.std.proofs.Common.{◌≡◌, ℕ, ◌≤◌, List, Some, sym, subst, arith}
+use Rattle.sb_io.specs.Faults.{Rose}
+use Rattle.sb_run.specs.Answer.{Command}
+use Rattle.sb_run.specs.Gathering.{IsCaused, IsCausedAt, name_of, RoseAt}
 use Rattle.sb_run.specs.declared.refusal.Refusal.{Refusal}
-use Rattle.sb_run.specs.declared.refusal.Refusal.TheVariants.{Usage, Shelf, NoMemory, Program, Log}
-use Rattle.sb_run.specs.declared.refusal.Which.TheVariants as which
+use Rattle.sb_run.specs.declared.refusal.Refusal.TheVariants.{Usage, Shelf, NoMemory, Program, Log, Chunks, ScriptLonger, ScriptLine}
+use Rattle.sb_run.specs.declared.refusal.Which.{Which}
 
-pub caused_by_program : (program log : List ℕ) (before now : List ℕ → ℕ) (refusal : Refusal) → IsCausedAt which.Program program before now refusal → IsCaused program log before now refusal
-caused_by_program program log before now Usage cause = cause
-caused_by_program program log before now (Shelf which.Program) cause = cause.1
-caused_by_program program log before now (Shelf which.Log) cause = let no = cause.0 in cc
-caused_by_program program log before now NoMemory cause = tt
-caused_by_program program log before now Program cause = tt
-caused_by_program program log before now Log cause = tt
-
-pub caused_by_log : (program log : List ℕ) (before mid now : List ℕ → ℕ) (refusal : Refusal) → before log ≤ mid log → IsCausedAt which.Log log mid now refusal → IsCaused program log before now refusal
-caused_by_log program log before mid now Usage later cause = cause
-caused_by_log program log before mid now (Shelf which.Program) later cause = let no = cause.0 in cc
-caused_by_log program log before mid now (Shelf which.Log) later cause = omega (arith, cause.1)
-caused_by_log program log before mid now NoMemory later cause = tt
-caused_by_log program log before mid now Program later cause = tt
-caused_by_log program log before mid now Log later cause = tt
+-- a fault of the fetch of one of the command's files, some time after the call began
+pub caused : (command : Command) (file : Which) (name : List ℕ) (before mid now : List ℕ → ℕ) (refusal : Refusal) → name_of command file ≡ Some name → before name ≤ mid name
+    → IsCausedAt file name mid now refusal → IsCaused command before now refusal
+caused command file name before mid now Usage named later cause = cause
+caused command file name before mid now (Shelf told) named later cause =
+    let rose : Rose (before name) (now name) = omega (arith, later, cause.1) in
+    subst (λ f. RoseAt (name_of command f) before now) (sym cause.0) (subst (λ o. RoseAt o before now) (sym named) rose)
+caused command file name before mid now NoMemory named later cause = tt
+caused command file name before mid now Program named later cause = tt
+caused command file name before mid now Log named later cause = tt
+caused command file name before mid now Chunks named later cause = tt
+caused command file name before mid now ScriptLonger named later cause = tt
+caused command file name before mid now (ScriptLine line) named later cause = tt

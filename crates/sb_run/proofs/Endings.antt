@@ -2,11 +2,11 @@
 use Rattle.std.proofs.Common.{◌≡◌, ◌⊎◌, ℕ, List, Option, subst, sym, refl}
 use mathlib.Core.Logic.{inl, inr}
 use Rattle.sb_io.specs.Sink.{Appends}
-use Rattle.sb_run.specs.Answer.{Answer}
+use Rattle.sb_run.specs.Answer.{Answer, done}
 use Rattle.sb_run.specs.Call.{Ends}
-use Rattle.sb_run.specs.Gathering.{done, Refused, refusal_answer}
+use Rattle.sb_run.specs.Gathering.{Refused, refusal_answer}
 use Rattle.sb_run.specs.declared.refusal.Refusal.{Refusal}
-use Rattle.sb_run.specs.declared.refusal.Refusal.TheVariants.{Usage, Shelf, NoMemory, Program, Log}
+use Rattle.sb_run.specs.declared.refusal.Refusal.TheVariants.{Usage, Shelf, NoMemory, Program, Log, Chunks, ScriptLonger, ScriptLine}
 
 pub done_ends : (due : Answer) (bytes : List ℕ) (before now : Option (List ℕ)) → due ≡ done bytes → Appends bytes before now → Ends due before now 0
 done_ends due bytes before now is appends = subst (λ answer. Ends answer before now 0) (sym is) (inl (refl, appends))
@@ -28,3 +28,6 @@ refused_ends (Shelf file) due before now status is ends = other_ends due (refusa
 refused_ends NoMemory due before now status is ends = other_ends due (refusal_answer NoMemory) before now status (λ five. inr (inr (inr five))) ends
 refused_ends Program due before now status is ends = subst (λ answer. Ends answer before now status) (sym is) (put_ends (refusal_answer Program) before now status ends)
 refused_ends Log due before now status is ends = subst (λ answer. Ends answer before now status) (sym is) (put_ends (refusal_answer Log) before now status ends)
+refused_ends Chunks due before now status is ends = subst (λ answer. Ends answer before now status) (sym is) (put_ends (refusal_answer Chunks) before now status ends)
+refused_ends ScriptLonger due before now status is ends = subst (λ answer. Ends answer before now status) (sym is) (put_ends (refusal_answer ScriptLonger) before now status ends)
+refused_ends (ScriptLine line) due before now status is ends = subst (λ answer. Ends answer before now status) (sym is) (put_ends (refusal_answer (ScriptLine line)) before now status ends)

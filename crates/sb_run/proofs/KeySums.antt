@@ -15,17 +15,18 @@ use Rattle.sb_laws.specs.Sums.{sum_of, both_sums}
 use Rattle.sb_laws.proofs.Sums.{sum_last}
 use Rattle.sb_run.specs.Fold.{Emission, of_key, fold_of, everywhere}
 use Rattle.sb_run.specs.Program.{plus}
-use Rattle.sb_run.specs.Report.{rising_keys, row_text, fold_text, store_report}
+use Rattle.sb_report.specs.Report.{row_text}
+use Rattle.sb_run.specs.Report.{rising_keys, fold_text, store_report}
 use Rattle.sb_run.specs.Totals.{Totals, AreTotals, AddsOne, rows_of}
 use Rattle.std.specs.Fmt.{signed_decimal}
 use Rattle.std.specs.List.{AllByRecursion, flat_map}
 use Rattle.std.proofs.lemmas.List.Elements.{recursion_from_All}
 use Rattle.std.proofs.lemmas.Map.Views.{All-found}
 
-abbrev by_bytes : List ℕ → List ℕ → Ordering
+abbrev pub by_bytes : List ℕ → List ℕ → Ordering
 by_bytes = slice_cmp nat_cmp
 
-same_bytes : (xs ys : List ℕ) (o : Ordering) → o ≡ by_bytes xs ys → is_eq o ≡ bytes_eq xs ys
+pub same_bytes : (xs ys : List ℕ) (o : Ordering) → o ≡ by_bytes xs ys → is_eq o ≡ bytes_eq xs ys
 same_bytes = same_from_slice_cmp nat_cmp is_eq bytes_eq refl (λ _ _. refl) (λ _ _. refl) (λ x y xs ys o h. grind (arith, nat_tests))
 
 keys-insert_entry : {K X : Type 0} (R : K → K → Ordering) (entries : List (K × X)) (k : K) (v : X) → keys_of (insert_entry R entries k v) ≡ insert_key R (keys_of entries) k
@@ -69,7 +70,7 @@ filter-everywhere [] = refl
 filter-everywhere (value ∷ values) = ap (λ vs. value ∷ vs) (filter-everywhere values)
 
 -- the fold over all positions is the sum of the key's values
-fold-everywhere : {E : Type 0} (add : E → E → E) (emissions : List (Emission E)) (key : List ℕ)
+pub fold-everywhere : {E : Type 0} (add : E → E → E) (emissions : List (Emission E)) (key : List ℕ)
     → fold_of add emissions key everywhere ≡ sum_of add (map (λ value. value.1) (of_key key emissions))
 fold-everywhere add emissions key = ap (λ values. sum_of add (map (λ value. value.1) values)) (filter-everywhere (of_key key emissions))
 
@@ -108,7 +109,7 @@ are_totals_more emissions emission before now are adds = record {
   rising_keys-last emissions emission =
       ap (fold (insert_key by_bytes) []) (map-last (λ e. e.key) emissions emission) ∙ fold-append (insert_key by_bytes) [] (map (λ e. e.key) emissions) (emission.key ∷ [])
 
-rows_by_keys : (store : List ℕ) (emissions : List (Emission ℤ)) (rows : List (List ℕ × ℤ)) → AllByRecursion (λ row. fold_of plus emissions row.0 everywhere ≡ Some row.1) rows
+pub rows_by_keys : (store : List ℕ) (emissions : List (Emission ℤ)) (rows : List (List ℕ × ℤ)) → AllByRecursion (λ row. fold_of plus emissions row.0 everywhere ≡ Some row.1) rows
     → flat_map (λ row. row_text store row.0 (signed_decimal row.1)) rows
     ≡ flat_map (λ key. row_text store key (fold_text signed_decimal (fold_of plus emissions key everywhere))) (keys_of rows)
 rows_by_keys store emissions [] are = refl

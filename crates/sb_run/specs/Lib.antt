@@ -1,5 +1,7 @@
 pub mod Answer
 pub mod Call
+pub mod Commands
+pub mod Feed
 pub mod Fold
 pub mod Form
 pub mod Gathering
@@ -8,8 +10,12 @@ pub mod Names
 pub mod Program
 pub mod Reading
 pub mod Report
+pub mod Run
 pub mod Schema
+pub mod ScriptOutput
 pub mod Sending
+pub mod Serving
 pub mod Totals
+pub mod Transcript
 pub mod Value
 pub mod Views

@@ -1,9 +1,10 @@
 -- The report: each key with an emission, in rising order of its text's bytes, with its fold over the whole log.
-use Rattle.std.specs.Prelude.{ℕ, List, [], ◌∷◌, ◌++◌, map, fold, Option, Some, None, codes}
+use Rattle.std.specs.Prelude.{ℕ, List, [], map, fold, Option, Some, None, codes}
 use Rattle.std.specs.List.{flat_map}
 use Rattle.std.specs.Ordering.{nat_cmp}
 use Rattle.std.specs.Cmp.Lexicographic.{slice_cmp}
 use Rattle.std.specs.BTreeSet.{insert_key}
+use Rattle.sb_report.specs.Report.{row_text}
 use Rattle.sb_run.specs.Fold.{Emission, fold_of, everywhere}
 
 -- the keys of these emissions, each once, in rising order of their bytes
@@ -14,10 +15,6 @@ rising_keys emissions = fold (insert_key (slice_cmp nat_cmp)) [] (map (λ e. e.k
 abbrev pub fold_text : {E : Type 0} → (E → List ℕ) → Option E → List ℕ
 fold_text value_text None = codes "()"
 fold_text value_text (Some value) = value_text value
-
--- STORE, tab, KEY, tab, VALUE, LF
-abbrev pub row_text : List ℕ → List ℕ → List ℕ → List ℕ
-row_text store key value = store ++ (9 ∷ key ++ (9 ∷ value ++ 10 ∷ []))
 
 -- the rows of a store
 abbrev pub store_report : {E : Type 0} → (E → E → E) → (E → List ℕ) → List ℕ → List (Emission E) → List ℕ

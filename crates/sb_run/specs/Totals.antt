@@ -8,7 +8,8 @@ use Rattle.std.specs.Str.{bytes_eq}
 use Rattle.sb_laws.specs.Sums.{both_sums}
 use Rattle.sb_run.specs.Fold.{Emission, fold_of, everywhere}
 use Rattle.sb_run.specs.Program.{plus}
-use Rattle.sb_run.specs.Report.{rising_keys, row_text}
+use Rattle.sb_report.specs.Report.{row_text}
+use Rattle.sb_run.specs.Report.{rising_keys}
 use Rattle.std.specs.Fmt.{signed_decimal}
 use Rattle.std.specs.List.{flat_map}
 

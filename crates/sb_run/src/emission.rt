@@ -34,7 +34,12 @@ pub fn emissions(
     Ok(emissions)
 }
 
-fn emission_of(alloc: Global, program: &Program, logged: LogRecord) -> Result<Emission, NoMemory>
+/// What a record emits.
+pub fn emission_of(
+    alloc: Global,
+    program: &Program,
+    logged: LogRecord,
+) -> Result<Emission, NoMemory>
     ensures { IfOk result (λ emission. emission_view emission ≡ emission_of (program_view program.now) (record_view logged)) }
 {
     let LogRecord {

@@ -137,7 +137,8 @@ fn are_distinct(fields: &[Field]) -> bool
     true
 }
 
-fn is_int_at(place: usize, fields: &[Field]) -> bool
+/// Whether the field at a place is an int.
+pub fn is_int_at(place: usize, fields: &[Field]) -> bool
     ensures { result ≡ is_int (field_at place (map field_view fields.now)).type }
 {
     match fields.get(place) {

@@ -2,17 +2,24 @@
 #![tactic(auto)]
 
 mod batch;
+mod command;
 mod emission;
+mod feed;
 mod form;
+mod inputs;
+mod laws;
 mod log;
 mod naming;
 mod program;
 mod reading;
 mod refusal;
 mod report;
+mod run;
+mod serving;
 mod top;
 mod totals;
 
+pub use laws::script_output_is_transcript;
 pub use top::summingbird;
 
 #[cfg(test)]

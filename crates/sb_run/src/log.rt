@@ -129,8 +129,8 @@ fn read_fields(
     Ok(values)
 }
 
-// The batch of a time that isn't before `from`.
-fn batch_of_time(schema: &Schema, time: i64) -> u64
+/// The batch of a time that isn't before `from`.
+pub fn batch_of_time(schema: &Schema, time: i64) -> u64
     requires length { 0 < schema.now.length }
     requires time { schema.now.from ≤ℤ time }
     ensures { result ≡ batch_of (schema_view schema.now) time }

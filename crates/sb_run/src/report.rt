@@ -2,7 +2,7 @@
 ghost use Rattle.std.specs.Prelude.{◌≡◌, ◌++◌, [], IfSome, OnOk, Some};
 ghost use Rattle.std.specs.Fmt.{signed_decimal};
 ghost use Rattle.sb_io.specs.Sink.{Appends, HasSinkCause};
-ghost use Rattle.sb_run.specs.Report.{row_text};
+ghost use Rattle.sb_report.specs.Report.{row_text};
 ghost use Rattle.sb_run.specs.Sending.{Sends};
 ghost use Rattle.sb_run.specs.Totals.{rows_of};
 

@@ -1,4 +1,6 @@
 // Whole calls over files and a sink in memory.
+mod run;
+
 use crate::summingbird;
 use sb_io::{MemShelf, MemSink};
 use std::alloc::{AllocError, Global};

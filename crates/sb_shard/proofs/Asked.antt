@@ -42,7 +42,7 @@ module _ {E : Type 0} (key : KeyBytes) where
         | Some v ↦ both _ _ (below_next m i h) rest
       ]
 
-  rows_rise : (i : ℕ) (lists : List (List (KeyBytes × E))) → T (is_sorted nat_cmp (rows_from key i lists))
+  pub rows_rise : (i : ℕ) (lists : List (List (KeyBytes × E))) → T (is_sorted nat_cmp (rows_from key i lists))
   rows_rise i [] = tt
   rows_rise i (rows ∷ lists) =
       let rest = rows_rise (suc i) lists in
@@ -62,7 +62,7 @@ module _ {E : Type 0} (key : KeyBytes) where
       ]
 
   -- at its number stands what its list has
-  find_rows : (j i k : ℕ) (lists : List (List (KeyBytes × E))) → j ≡ i + k → find nat_cmp j (rows_from key i lists) ≡ find key_order key (get_or lists k [])
+  pub find_rows : (j i k : ℕ) (lists : List (List (KeyBytes × E))) → j ≡ i + k → find nat_cmp j (rows_from key i lists) ≡ find key_order key (get_or lists k [])
   find_rows j i k [] e = refl
   find_rows j i zero (rows ∷ lists) e =
       let none = none_before j (suc i) lists (omega (arith, e)) in
@@ -125,14 +125,14 @@ if_turn false true x = refl
 if_turn false false x = refl
 
 module _ {E : Type 0} (d : Dictionaries E) (key : KeyBytes) (upto : ℕ) where
-  found_valid : (rows : List (KeyBytes × E)) → AreValid d rows → IsValid (d.valid key.store) (find key_order key rows)
+  pub found_valid : (rows : List (KeyBytes × E)) → AreValid d rows → IsValid (d.valid key.store) (find key_order key rows)
   found_valid [] h = tt
   found_valid (x ∷ xs) h = elim (same_key key x.0) as (λ b. (same_key key x.0 ≡ b) → IsValid (d.valid key.store) (cond b (Some x.1) (find key_order key xs))) [
     | true ↦ λ e. subst (λ (k : KeyBytes). d.valid k.store x.1) (sym (same_is_equal key x.0 e)) h.0.1
     | false ↦ λ e. found_valid xs h.1
   ] refl
 
-  onto_valid : (i : ℕ) (o : Option E) (pairs : List (ℕ × E)) → IsValid (d.valid key.store) o → AllByRecursion (λ (x : ℕ × E). d.valid key.store x.1) pairs → AllByRecursion (λ (x : ℕ × E). d.valid key.store x.1) (onto i o pairs)
+  pub onto_valid : (i : ℕ) (o : Option E) (pairs : List (ℕ × E)) → IsValid (d.valid key.store) o → AllByRecursion (λ (x : ℕ × E). d.valid key.store x.1) pairs → AllByRecursion (λ (x : ℕ × E). d.valid key.store x.1) (onto i o pairs)
   onto_valid i None pairs h k = k
   onto_valid i (Some v) pairs h k = (h, k)
 

@@ -5,3 +5,6 @@ pub mod Asked
 pub mod KeySets
 pub mod HeldKeys
 pub mod Merged
+pub mod Totals
+pub mod Drained
+pub mod Kept

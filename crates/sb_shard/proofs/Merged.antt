@@ -37,7 +37,7 @@ module _ {E : Type 0} where
       ap (λ t. cond t (x ∷ filter (λ pair. pair.0 == n) xs) (filter (λ pair. pair.0 == n) xs)) other ∙ none_at n xs (second _ _ h)
 
   -- in a rising table the sum of a batch is what stands there
-  fold_found : (add : E → E → E) (j : ℕ) (pairs : List (ℕ × E)) → T (is_sorted nat_cmp pairs) → fold_over add pairs (λ b. b == j) ≡ find nat_cmp j pairs
+  pub fold_found : (add : E → E → E) (j : ℕ) (pairs : List (ℕ × E)) → T (is_sorted nat_cmp pairs) → fold_over add pairs (λ b. b == j) ≡ find nat_cmp j pairs
   fold_found add j [] h = refl
   fold_found add j (x ∷ xs) h = tested (x.0 == j) refl (fold_found add j xs (second _ _ h))
     where
@@ -100,7 +100,7 @@ below_is_upto b n = same (nat_lt b (suc n)) (nat_le b n) refl refl
 
 module _ {E : Type 0} (V : E → Type 0) (add : E → E → E) (laws : CommutingLaws V add) where
   -- two lists with one sum in each batch below a number have one sum of these batches
-  same_below : (n : ℕ) (pairs xs : List (ℕ × E)) (b : ℕ → ℕ) (u : ℕ → Bool) → AllByRecursion (λ x. V x.1) pairs → AllByRecursion (λ x. V x.1) xs
+  pub same_below : (n : ℕ) (pairs xs : List (ℕ × E)) (b : ℕ → ℕ) (u : ℕ → Bool) → AllByRecursion (λ x. V x.1) pairs → AllByRecursion (λ x. V x.1) xs
       → ((j : ℕ) → j < n → fold_over add pairs (λ k. k == j) ≡ fold_over add xs (λ i. b i == j && u i))
       → fold_over add pairs (λ k. nat_lt k n) ≡ fold_over add xs (λ i. nat_lt (b i) n && u i)
   same_below zero pairs xs b u h k each =
@@ -110,7 +110,7 @@ module _ {E : Type 0} (V : E → Type 0) (add : E → E → E) (laws : Commuting
       ∙ (ap_both (both_sums add) (same_below n pairs xs b u h k (λ j less. each j (omega (arith, less)))) (each n (omega arith))
       ∙ sym (fold_splits V add laws xs _ (λ i. nat_lt (b i) n && u i) (λ i. b i == n && u i) k (λ i. split_with (nat_lt (b i) (suc n)) (nat_lt (b i) n) (b i == n) (u i) (below_suc (b i) n))))
 
-  all_kept : (n : ℕ) (pairs : List (ℕ × E)) → AllByRecursion (λ pair. pair.0 ≤ n) pairs → pairs ≡ filter (λ x. nat_lt x.0 (suc n)) pairs
+  pub all_kept : (n : ℕ) (pairs : List (ℕ × E)) → AllByRecursion (λ pair. pair.0 ≤ n) pairs → pairs ≡ filter (λ x. nat_lt x.0 (suc n)) pairs
   all_kept n [] h = refl
   all_kept n (x ∷ xs) h =
       let below : nat_lt x.0 (suc n) ≡ true = (let le = h.0 in grind (arith, nat_tests)) in

@@ -2,3 +2,4 @@ pub mod Shards
 pub mod Events
 pub mod Asks
 pub mod Gathering
+pub mod Draining

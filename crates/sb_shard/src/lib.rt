@@ -2,6 +2,7 @@
 #![tactic(auto)]
 
 mod answer;
+mod draining;
 mod gathering;
 mod key_set;
 mod shard;

@@ -3,17 +3,18 @@ ghost use Rattle.sb_text.specs.Ranges.{union};
 ghost use Rattle.sb_feed.specs.Jobs.{Job, AreValid, dictionaries};
 ghost use Rattle.sb_feed.specs.Stands.{elements, AreFoldsOf, HasSums};
 ghost use Rattle.sb_shard.specs.Shards.{cover_of, published_to, floor_of, kept_by, published_sum, online_sum, shard_sums};
-ghost use Rattle.sb_shard.specs.Asks.{Answers, values_of, MakesNamed, HasKeys};
+ghost use Rattle.sb_shard.specs.Asks.{Answers, values_of, MakesNamed, Drains, HasKeys};
 ghost use Rattle.sb_shard.specs.Events.{ShareNone, FlushKeeps, InstallKeeps, KeepsOnly, parts_from, flushed, AreSwept, IsInstalled};
 
 use crate::answer::{Answer, AskError};
+use crate::draining::{add_lists, add_parts, rows_of};
 use crate::gathering::{gather, gather_rows};
 use crate::key_set::{keys_of, put_part_keys, put_row_keys};
 use sb_feed::{Family, KeyBytes, Parcel, Part, RowList, Rows, Sums};
 use sb_laws::{NoMemory, Semigroup};
 use sb_text::Ranges;
 use std::alloc::Global;
-use std::collections::BTreeSet;
+use std::collections::{BTreeMap, BTreeSet};
 use std::marker::Model;
 
 /// The sums of a shard's keys. A batch is published, and then its sums are the rows that were installed, or online, and
@@ -155,6 +156,26 @@ impl<E: Drop> Shard<E> {
         put_row_keys(alloc, &mut keys, self.rows())?;
         put_part_keys(alloc, &mut keys, self.parts(), self.published())?;
         keys_of(alloc, keys)
+    }
+
+    /// The sum of each key that has one, over all batches, in rising order of the keys. Takes n log n steps for n kept
+    /// elements, which are moved.
+    pub fn into_rows<F: Family>(self, alloc: Global, family: &F) -> Result<RowList<E>, NoMemory>
+    where
+        F::M: Semigroup<El = E>,
+        requires kept { AreValid (dictionaries F.M.valid F.M.add (F.stores family.now) (F.dictionary family.now)) (kept_by self) }
+        ensures { IfOk result (λ rows. Drains (dictionaries F.M.valid F.M.add (F.stores family.now) (F.dictionary family.now)) self rows) }
+    {
+        let Shard {
+            mut parts,
+            rows,
+            cover: _,
+        } = self;
+        keep_from(&mut parts, rows.len() as u64);
+        let mut totals = BTreeMap::new(alloc);
+        add_lists(alloc, family, &mut totals, rows)?;
+        add_parts(alloc, family, &mut totals, parts)?;
+        rows_of(alloc, totals)
     }
 
     fn parts(&self) -> &[Part<E>]

@@ -120,3 +120,28 @@ fn a_part_is_online_until_its_batch_is_published(rt: HostRuntime) -> Result<(), 
     assert_eq!(rt; shard.keys(alloc)?.len(), 1);
     Ok(())
 }
+
+#[test]
+fn rows_have_the_sums_over_all_batches(rt: HostRuntime) -> Result<(), Fail> {
+    let alloc = rt.alloc();
+    let family = SumStores { sum: SumM };
+    let mut shard = Shard::new(alloc);
+    let mut rows = Vec::new(alloc);
+    rows.push((key(alloc, b"b")?, 7))?;
+    shard.install(Rows {
+        from: 0,
+        to: 1,
+        rows: RowList::from_vec(rows),
+    })?;
+    shard.flush(alloc, &family, parcel(alloc, 1, key(alloc, b"b")?, 1, 2)?)?;
+    shard.flush(alloc, &family, parcel(alloc, 2, key(alloc, b"a")?, 3, 5)?)?;
+    shard.flush(alloc, &family, parcel(alloc, 3, key(alloc, b"b")?, 0, 9)?)?;
+    let rows = shard.into_rows(alloc, &family)?;
+    let expected = [("a", 5), ("b", 9)];
+    assert_eq!(rt; rows.len(), 2);
+    for (row, (text, sum)) in rows.as_slice().iter().zip(expected) {
+        assert_eq!(rt; row.0.text.as_bytes(), text.as_bytes());
+        assert_eq!(rt; row.1, sum);
+    }
+    Ok(())
+}

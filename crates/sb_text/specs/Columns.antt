@@ -1,4 +1,4 @@
--- The columns of a line: what stands between its tabs.
+-- The columns of a line: what stands between its tabs, or between other separators.
 use Rattle.std.specs.Prelude.{ℕ, ◌==◌, ◌≢◌, List, [], ◌∷◌, Option, Some, None, if◌then◌else◌}
 use Rattle.std.specs.Borrow.{Bor}
 use Rattle.std.specs.List.{AllByRecursion}
@@ -21,7 +21,7 @@ pieces separator (byte ∷ bytes) = if byte == separator then [] ∷ pieces sepa
 abbrev pub columns_of : List ℕ → List (List ℕ)
 columns_of = pieces 9
 
--- the columns that are left: those of what follows the last tab, and none after the last column
-abbrev pub columns_left : Option (Bor (List ℕ)) → List (List ℕ)
-columns_left None = []
-columns_left (Some rest) = columns_of rest.now
+-- the columns that are left: those of what follows the last separator, and none after the last column
+abbrev pub columns_left : ℕ → Option (Bor (List ℕ)) → List (List ℕ)
+columns_left separator None = []
+columns_left separator (Some rest) = pieces separator rest.now

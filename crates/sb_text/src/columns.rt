@@ -1,14 +1,16 @@
 ghost use Rattle.std.specs.Prelude.{◌≡◌, ◌==◌, ◌≤◌, filter, length};
-ghost use Rattle.sb_text.specs.Columns.{columns_of};
+ghost use Rattle.sb_text.specs.Columns.{columns_of, pieces};
 
 use crate::splitting::split_once;
 use std::marker::Model;
 
 const TAB: u8 = b'\t';
 
-/// The columns of a line, from the first on: what stands between its tabs. A line has one column more than tabs.
+/// The columns of a line, from the first on: what stands between its tabs, or between other separators. A line has one
+/// column more than separators.
 #[derive(Debug, Drop)]
 pub struct Columns<'a> {
+    separator: u8,
     rest: Option<&'a [u8]>,
 }
 
@@ -18,7 +20,7 @@ impl<'a> Model for Columns<'a> {
 
     ghost Value = { List (List ℕ) };
 
-    ghost view = { λ s. columns_left s.rest };
+    ghost view = { λ s. columns_left s.separator s.rest };
 }
 
 impl<'a> Columns<'a> {
@@ -26,7 +28,17 @@ impl<'a> Columns<'a> {
     pub fn new(line: &'a [u8]) -> Self
         ensures { result ≡ columns_of line.now }
     {
-        Columns { rest: Some(line) }
+        Columns::separated_by(line, TAB)
+    }
+
+    /// The columns of a line without its LF, where this byte stands between them.
+    pub fn separated_by(line: &'a [u8], separator: u8) -> Self
+        ensures { result ≡ pieces separator line.now }
+    {
+        Columns {
+            separator,
+            rest: Some(line),
+        }
     }
 
     /// The number of columns that are left.
@@ -34,23 +46,23 @@ impl<'a> Columns<'a> {
         ensures { result ≡ length self.now }
     {
         match self.rest {
-            Some(rest) => count_columns(rest),
+            Some(rest) => count_columns(rest, self.separator),
             None => 0,
         }
     }
 }
 
-fn count_columns(line: &[u8]) -> usize
-    ensures { result ≡ length (columns_of line.now) }
+fn count_columns(line: &[u8], separator: u8) -> usize
+    ensures { result ≡ length (pieces separator line.now) }
 {
-    count_tabs(line) + 1
+    count_separators(line, separator) + 1
 }
 
-fn count_tabs(line: &[u8]) -> usize
-    ensures count { result ≡ length (filter (λ byte. byte == 9) line.now) }
+fn count_separators(line: &[u8], separator: u8) -> usize
+    ensures count { result ≡ length (filter (λ byte. byte == separator) line.now) }
     ensures bound { result ≤ length line.now }
 {
-    line.iter().filter(|byte| **byte == TAB).count()
+    line.iter().filter(|byte| **byte == separator).count()
 }
 
 impl<'a> Iterator for Columns<'a> {
@@ -64,7 +76,7 @@ impl<'a> Iterator for Columns<'a> {
 
     fn next(&mut self) -> Option<&'a [u8]> {
         let line = self.rest?;
-        match split_once(line, TAB) {
+        match split_once(line, self.separator) {
             Some((column, rest)) => {
                 self.rest = Some(rest);
                 Some(column)

@@ -5,6 +5,7 @@ mod columns;
 mod decimal;
 mod escaping;
 mod fields;
+mod key;
 mod lines;
 mod printed;
 mod ranges;

@@ -235,5 +235,11 @@ fn columns_are_counted_before_they_are_taken(rt: HostRuntime) -> Result<(), Fail
     assert_eq!(&rt; columns.left(), 3);
     assert_eq!(&rt; columns.next(), Some(b"a".as_slice()));
     assert_eq!(&rt; columns.left(), 2);
+    let mut words = Columns::separated_by(b"read  a", b' ');
+    assert_eq!(&rt; words.left(), 3);
+    for word in ["read", "", "a"] {
+        assert_eq!(&rt; words.next(), Some(word.as_bytes()));
+    }
+    assert_eq!(&rt; words.next(), None);
     Ok(())
 }

@@ -1,7 +1,7 @@
 use Rattle.std.proofs.Common.{[], ◌++◌, ◌≤◌}
 use Rattle.std.specs.Fmt.{signed_decimal}
 use Rattle.std.specs.List.{flat_map}
-use Rattle.sb_run.specs.Report.{row_text}
+use Rattle.sb_report.specs.Report.{row_text}
 use Rattle.sb_run.specs.Sending.{Sends}
 use Rattle.sb_run.specs.Totals.{rows_of}
 use Rattle.sb_run.proofs.report.put_report.Given as goal

@@ -3,4 +3,4 @@ use Rattle.sb_text.proofs.Splits.{length-pieces}
 use Rattle.sb_text.proofs.columns.count_columns.Goals as goal
 
 pub returns : goal.returns
-returns c = ap (λ n. n + 1) c.count_tabs.ensures.count ∙ sym (length-pieces 9 c.args.line.now)
+returns c = ap (λ n. n + 1) c.count_separators.ensures.count ∙ sym (length-pieces c.args.separator c.args.line.now)

@@ -1,0 +1,12 @@
+pub mod Frames
+pub mod Instances
+pub mod Levels
+pub mod Lines
+pub mod Listing
+pub mod Machine
+pub mod Place
+pub mod Sound
+pub mod TextOf
+pub mod TextViews
+pub mod Unique
+pub mod Whole

@@ -1,0 +1,4 @@
+pub mod Grammar
+pub mod Printed
+pub mod Program
+pub mod Text

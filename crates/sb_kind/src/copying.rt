@@ -1,0 +1,66 @@
+ghost use Rattle.std.specs.Prelude.{◌≡◌, IfOk};
+
+use crate::agg::{Agg, Tops};
+use crate::boxed::Boxed;
+use crate::many::Many;
+use sb_laws::{Items, NoMemory};
+use sb_types::Val;
+use std::alloc::Global;
+
+/// An equal element.
+pub fn copy(alloc: Global, a: &Agg) -> Result<Agg, NoMemory>
+    ensures { IfOk result (λ copied. copied ≡ a.now) }
+{
+    match a {
+        Agg::Sum(number) => Ok(Agg::Sum(*number)),
+        Agg::Min(number) => Ok(Agg::Min(*number)),
+        Agg::Max(number) => Ok(Agg::Max(*number)),
+        Agg::First(value) => Ok(Agg::First(sb_types::copy(alloc, value)?)),
+        Agg::Last(value) => Ok(Agg::Last(sb_types::copy(alloc, value)?)),
+        Agg::Concat(values) => Ok(Agg::Concat(copy_values(alloc, values)?)),
+        Agg::Set(values) => Ok(Agg::Set(copy_values(alloc, values)?)),
+        Agg::Top(items) => Ok(Agg::Top(copy_items(alloc, items)?)),
+        Agg::Cms(cells) => Ok(Agg::Cms(copy_numbers(alloc, cells)?)),
+        Agg::Hll(registers) => Ok(Agg::Hll(copy_numbers(alloc, registers)?)),
+        Agg::Pair(left, right) => {
+            let left = copy(alloc, left.get())?;
+            let right = copy(alloc, right.get())?;
+            Ok(Agg::Pair(Boxed::new(alloc, left)?, Boxed::new(alloc, right)?))
+        }
+        Agg::Map(entries) => {
+            let mut copied = Vec::with_capacity(alloc, entries.len())?;
+            for entry in entries.as_slice() {
+                let key = sb_types::copy(alloc, &entry.0)?;
+                let part = copy(alloc, &entry.1)?;
+                copied.push((key, part))?;
+            }
+            Ok(Agg::Map(Many::from_vec(copied)))
+        }
+    }
+}
+
+fn copy_values(alloc: Global, values: &Items<Val>) -> Result<Items<Val>, NoMemory>
+    ensures { IfOk result (λ copied. copied ≡ values.now) }
+{
+    let mut copied = Vec::with_capacity(alloc, values.len())?;
+    for value in values.as_slice() {
+        copied.push(sb_types::copy(alloc, value)?)?;
+    }
+    Ok(Items::from_vec(copied))
+}
+
+fn copy_items(alloc: Global, items: &Tops) -> Result<Tops, NoMemory>
+    ensures { IfOk result (λ copied. copied ≡ items.now) }
+{
+    let mut copied = Vec::with_capacity(alloc, items.len())?;
+    for item in items.as_slice() {
+        copied.push((item.0, item.1.copy(alloc)?))?;
+    }
+    Ok(Items::from_vec(copied))
+}
+
+fn copy_numbers<T: Copy>(alloc: Global, numbers: &Items<T>) -> Result<Items<T>, NoMemory>
+    ensures { IfOk result (λ copied. copied ≡ numbers.now) }
+{
+    Ok(Items::from_vec(Vec::from_slice(alloc, numbers.as_slice())?))
+}

@@ -1,0 +1,28 @@
+//! Monoids of any text.
+#![tactic(auto)]
+
+mod adding;
+mod agg;
+mod boxed;
+mod copying;
+mod dictionary;
+mod kind;
+mod many;
+mod parts;
+mod prepared;
+mod undoing;
+mod undone;
+mod values;
+mod writing;
+
+pub use agg::{Agg, Aggs, Tops};
+pub use boxed::Boxed;
+pub use copying::copy;
+pub use dictionary::{KindM, OnlineM};
+pub use kind::{Kind, commutes};
+pub use many::Many;
+pub use prepared::prepare;
+pub use writing::text;
+
+#[cfg(test)]
+mod tests;

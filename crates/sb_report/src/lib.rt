@@ -1,0 +1,12 @@
+//! Scripts, transcripts and reports: what a script asks, and the texts of the lines that answer.
+#![tactic(auto)]
+
+mod line;
+mod rows;
+mod script;
+#[cfg(test)]
+mod tests;
+
+pub use line::{TranscriptLine, write_line};
+pub use rows::{report, write_row};
+pub use script::{Ask, ScriptError, read_script};

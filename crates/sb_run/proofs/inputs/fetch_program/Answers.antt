@@ -1,0 +1,10 @@
+use Rattle.std.proofs.Common.{Ok, subst}
+use Rattle.sb_io.specs.Shelf.{IsFetched}
+use Rattle.sb_run.proofs.Programs.{fetched_is_due}
+use Rattle.sb_run.proofs.inputs.fetch_program.Goals as goal
+
+pub returns-in-Ok-All-clause-read : goal.returns-in-Ok-All-clause-read
+returns-in-Ok-All-clause-read g c =
+    let content = g.H.Shelf.content c.args.shelf.now c.args.name.now in
+    fetched_is_due content c.in-Ok-All.text c.deref.result.now c.accept.result
+    (subst (λ fetched. IsFetched 65536 content (Ok fetched)) c.in-Ok-All.field-0-is c.in-Ok-All.ensures.file) c.deref.ensures.value c.accept.ensures.accepts

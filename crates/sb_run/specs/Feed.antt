@@ -1,0 +1,75 @@
+-- The records of a log as a feed of one store, and what contracts see of it.
+use Rattle.std.specs.Prelude.{◌≡◌, ℕ, zero, suc, ◌≤◌, ℤ, ◌≤ℤ◌, List, [], ◌∷◌, map, FitsSigned}
+use Rattle.std.specs.Int.{w64, int_wrapping_add}
+use Rattle.std.specs.Fmt.{signed_decimal}
+use Rattle.sb_feed.specs.declared.key.KeyBytes.{KeyBytes}
+use Rattle.sb_feed.specs.Jobs.{Record, Dictionaries}
+use Rattle.sb_report.specs.Report.{row_text}
+use Rattle.sb_scalars.specs.declared.sum.SumM.{SumM}
+use Rattle.sb_run.specs.Fold.{Emission}
+use Rattle.sb_run.specs.Log.{LogRecord}
+use Rattle.sb_run.specs.Program.{Program, schema_of, emission_of}
+use Rattle.sb_run.specs.Run.{Run}
+use Rattle.sb_run.specs.Schema.{Schema, batch_of}
+use Rattle.sb_run.specs.declared.feed.Entry.{Entry}
+
+-- what is kept of a record: its batch, and the value that it adds to a key
+pub record EntryValue : Type 0 where
+  pub batch : ℕ
+  pub key : List ℕ
+  pub value : ℤ
+
+-- the store's name, its dictionary, and the records in log order
+pub record FeedValue : Type 0 where
+  pub name : List ℕ
+  pub sum : SumM
+  pub entries : List EntryValue
+
+abbrev pub entry_view : Entry → EntryValue
+entry_view entry = record { batch = entry.batch; key = entry.key; value = entry.value }
+
+-- a batch within the limit, and an i64
+abbrev pub IsEntry : EntryValue → Type 0
+IsEntry entry = (entry.batch ≤ 65535) × FitsSigned w64 entry.value
+
+-- the entry at a place
+abbrev pub IsAt : List EntryValue → ℕ → EntryValue → Type 0
+IsAt [] i entry = ⊥
+IsAt (e ∷ entries) zero entry = e ≡ entry
+IsAt (e ∷ entries) (suc i) entry = IsAt entries i entry
+
+-- the wrapping sum in the one store
+abbrev pub sums : Dictionaries ℤ
+sums = record { stores = 1; valid = λ store. FitsSigned w64; add = λ store. int_wrapping_add w64 }
+
+abbrev pub entry_record : EntryValue → Record ℤ
+entry_record entry = record { batch = entry.batch; parts = (record { store = 0; text = entry.key }, entry.value) ∷ [] }
+
+abbrev pub feed_records : FeedValue → List (Record ℤ)
+feed_records feed = map entry_record feed.entries
+
+-- what these entries emit, the first having this position
+abbrev pub emissions_from : ℕ → List EntryValue → List (Emission ℤ)
+emissions_from position [] = []
+emissions_from position (entry ∷ entries) = record { position = position; key = entry.key; value = entry.value } ∷ emissions_from (suc position) entries
+
+-- the run that a feed makes, in chunks of so many records
+abbrev pub feed_run : FeedValue → ℕ → Run
+feed_run feed chunk = record {
+  store = feed.name;
+  emissions = emissions_from 0 feed.entries;
+  job = record { records = feed_records feed; chunk = chunk; shards = 1; lag = 0 };
+}
+
+-- what a program keeps of a record
+abbrev pub entry_of : Program → LogRecord → EntryValue
+entry_of program r = record { batch = batch_of (schema_of program) r.time; key = (emission_of program r).key; value = (emission_of program r).value }
+
+-- the record's time isn't before batch 0, and its batch is within the limit
+pub record IsTimed (schema : Schema) (r : LogRecord) : Type 0 where
+  pub early : schema.from ≤ℤ r.time
+  pub far : batch_of schema r.time ≤ 65535
+
+-- the row of a key
+abbrev pub feed_row : FeedValue → KeyBytes × ℤ → List ℕ
+feed_row feed row = row_text feed.name row.0.text (signed_decimal row.1)

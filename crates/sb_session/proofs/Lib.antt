@@ -1,0 +1,5 @@
+pub mod Covers
+pub mod Emitted
+pub mod KeySums
+pub mod Over
+pub mod Sessions

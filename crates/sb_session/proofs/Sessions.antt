@@ -1,0 +1,133 @@
+-- The parts that a session works and the rows that it publishes stand for their chunks and batches.
+use Rattle.std.proofs.Common.{◌≡◌, ℕ, suc, ◌+◌, ◌<◌, ◌≤◌, Bool, true, false, cond, ◌&&◌, List, [], ◌∷◌, ◌++◌, length, map, filter, refl, sym, ap, subst, ◌∙◌, arith}
+use Rattle.std.specs.Prelude.{nat_lt, nat_le, ◌==◌, slice_index}
+use Rattle.std.specs.List.{AllByRecursion}
+use Rattle.std.proofs.lemmas.Bool.{ltb-true, ltb-false, leb-true, leb-false, eqb-true, eqb-false}
+use Rattle.sb_laws.specs.Sums.{sum_of}
+use Rattle.sb_laws.specs.Folds.{fold_over}
+use Rattle.sb_laws.specs.Tables.{values_at}
+use Rattle.sb_laws.proofs.Positions.{fold_same}
+use Rattle.sb_feed.specs.declared.key.KeyBytes.{KeyBytes}
+use Rattle.sb_feed.specs.declared.parts.Part.{Part}
+use Rattle.sb_feed.specs.Feeds.{parts_of}
+use Rattle.sb_feed.specs.Jobs.{Record, Job, Dictionaries, AreValid, IsRecord, IsJobOf, batch_of, chunk_of, of_key_from, of_key, fold_of, is_in}
+use Rattle.sb_feed.specs.Keys.{key_order, same_key}
+use Rattle.sb_feed.specs.Stands.{batch_value, key_values, sum_at, elements, IsParcelOf, AreRowsBy}
+use Rattle.sb_feed.proofs.PartSums.{fold_filter, elements_append}
+use Rattle.sb_session.specs.Emitted.{parts_where}
+use Rattle.sb_session.specs.Sessions.{all_keys}
+use Rattle.sb_session.specs.Sums.{key_sum, AreKeySums}
+use Rattle.sb_session.proofs.Emitted.{HaveBatches, values_where}
+
+filter_where : {A : Type 0} (s t : A → Bool) (xs : List A) → AllByRecursion (λ x. s x ≡ t x) xs → filter s xs ≡ filter t xs
+filter_where s t [] h = refl
+filter_where {A = A} s t (x ∷ xs) h = ap (λ (b : Bool). cond b (x ∷ filter s xs) (filter s xs)) h.0 ∙ ap (λ (l : List A). cond (t x) (x ∷ l) l) (filter_where s t xs h.1)
+
+and_turn : (x y : Bool) → (x && y) ≡ (true && (y && x))
+and_turn true true = refl
+and_turn true false = refl
+and_turn false true = refl
+and_turn false false = refl
+
+same_batch : (b p q : ℕ) (k l m : Bool) → q ≡ p + 1 → (b == p) ≡ k → nat_le p b ≡ l → nat_lt b q ≡ m → k ≡ (true && (l && m))
+same_batch b p q true true true e x y z = refl
+same_batch b p q true true false e x y z = absurd (omega (arith, e, eqb-true, ltb-false))
+same_batch b p q true false m e x y z = absurd (omega (arith, eqb-true, leb-false))
+same_batch b p q false true true e x y z = absurd (omega (arith, e, eqb-false, leb-true, ltb-true))
+same_batch b p q false true false e x y z = refl
+same_batch b p q false false m e x y z = refl
+
+module _ {E : Type 0} where
+  of_one : (P : ℕ → Type 0) (i : ℕ) (values : List E) → P i → (xs : List (ℕ × E)) → AllByRecursion (λ x. P x.0) xs → AllByRecursion (λ x. P x.0) (map (λ value. (i, value)) values ++ xs)
+  of_one P i [] p xs h = h
+  of_one P i (v ∷ values) p xs h = (p, of_one P i values p xs h)
+
+  -- what holds of each position of the log holds of those of a key's values
+  positions : (P : ℕ → Type 0) (key : KeyBytes) (i : ℕ) (records : List (Record E)) → ((k : ℕ) → i ≤ k → k < i + length records → P k) → AllByRecursion (λ x. P x.0) (of_key_from key i records)
+  positions P key i [] h = tt
+  positions P key i (r ∷ records) h =
+      of_one P i (values_at key_order key r.parts) (h i (omega arith) (omega arith)) (of_key_from key (suc i) records) (positions P key (suc i) records (λ k le less. h k (omega (arith, le)) (omega (arith, less))))
+
+  -- tests that agree on the positions of the log
+  pub fold_where : (add : E → E → E) (job : Job E) (key : KeyBytes) (s t : ℕ → Bool) → ((k : ℕ) → k < length job.records → s k ≡ t k) → fold_over add (of_key job key) s ≡ fold_over add (of_key job key) t
+  fold_where add job key s t h =
+      ap (λ l. sum_of add (map (λ (x : ℕ × E). x.1) l)) (filter_where (λ (x : ℕ × E). s x.0) (λ x. t x.0) (of_key job key) (positions (λ k. s k ≡ t k) key 0 job.records (λ k le less. h k (omega (arith, less)))))
+
+  batches_from : (b : ℕ → ℕ) (i : ℕ) (records : List (Record E)) → ((k : ℕ) → k < length records → b (i + k) ≡ slice_index (map (λ r. r.batch) records) k) → HaveBatches b i records
+  batches_from b i [] h = tt
+  batches_from b i (r ∷ records) h =
+      (ap b (omega arith) ∙ h 0 (omega arith), batches_from b (suc i) records (λ k less. ap b (omega arith) ∙ h (suc k) (omega (arith, less))))
+
+  job_batches : (job : Job E) → HaveBatches (batch_of job) 0 job.records
+  job_batches job = batches_from (batch_of job) 0 job.records (λ k less. ap (batch_of job) (omega arith))
+
+  onto_filtered : (b : ℕ → ℕ) (x : ℕ × E) (u : Bool) (ys zs : List (ℕ × E)) → ys ≡ map {B = ℕ × E} (λ x. (b x.0, x.1)) zs → cond u ((b x.0, x.1) ∷ ys) ys ≡ map {B = ℕ × E} (λ x. (b x.0, x.1)) (cond u (x ∷ zs) zs)
+  onto_filtered b x true ys zs e = ap (λ l. (b x.0, x.1) ∷ l) e
+  onto_filtered b x false ys zs e = e
+
+  filter_placed : (b : ℕ → ℕ) (t : ℕ → Bool) (xs : List (ℕ × E)) → filter (λ (y : ℕ × E). t y.0) (map {B = ℕ × E} (λ x. (b x.0, x.1)) xs) ≡ map {B = ℕ × E} (λ x. (b x.0, x.1)) (filter (λ x. t (b x.0)) xs)
+  filter_placed b t [] = refl
+  filter_placed b t (x ∷ xs) = onto_filtered b x (t (b x.0)) (filter (λ (y : ℕ × E). t y.0) (map {B = ℕ × E} (λ x. (b x.0, x.1)) xs)) (filter (λ x. t (b x.0)) xs) (filter_placed b t xs)
+
+  values_placed : (b : ℕ → ℕ) (xs : List (ℕ × E)) → map (λ (y : ℕ × E). y.1) (map {B = ℕ × E} (λ x. (b x.0, x.1)) xs) ≡ map (λ x. x.1) xs
+  values_placed b [] = refl
+  values_placed b (x ∷ xs) = ap (λ l. x.1 ∷ l) (values_placed b xs)
+
+  -- the sum of a key's parts of a batch, of the parts at the positions that pass
+  sum_where : (add : ℕ → E → E → E) (job : Job E) (passes : ℕ → Bool) (key : KeyBytes) (j : ℕ)
+      → sum_at add key j (parts_where passes 0 job.records) ≡ fold_of add job key (λ i. passes i && (batch_of job i == j))
+  sum_where add job passes key j =
+      let b = batch_of job in
+      let xs : List (ℕ × E) = filter (λ x. passes x.0) (of_key job key) in
+      ap (λ l. fold_over (add key.store) l (λ n. n == j)) (values_where key passes b 0 job.records (job_batches job))
+      ∙ (ap (λ l. sum_of (add key.store) (map (λ (x : ℕ × E). x.1) l)) (filter_placed b (λ n. n == j) xs)
+      ∙ (ap (sum_of (add key.store)) (values_placed b (filter (λ x. b x.0 == j) xs))
+      ∙ fold_filter (add key.store) passes (λ i. b i == j) (of_key job key)))
+
+  onto_values : (part : Part E) (u : Bool) (xs : List (KeyBytes × E)) (ys : List (Part E)) → map (λ (x : KeyBytes × E). x.1) xs ≡ map (λ (x : ℕ × E). x.1) (map batch_value ys)
+      → map (λ (x : KeyBytes × E). x.1) (cond u ((part.key, part.value) ∷ xs) xs) ≡ map (λ (x : ℕ × E). x.1) (map batch_value (cond u (part ∷ ys) ys))
+  onto_values part true xs ys e = ap (λ l. part.value ∷ l) e
+  onto_values part false xs ys e = e
+
+  of_elements : (key : KeyBytes) (parts : List (Part E)) → values_at key_order key (elements parts) ≡ map (λ (x : ℕ × E). x.1) (key_values key parts)
+  of_elements key [] = refl
+  of_elements key (part ∷ parts) = onto_values part (same_key key part.key) (filter (λ x. same_key key x.0) (elements parts)) (filter (λ x. same_key key x.key) parts) (of_elements key parts)
+
+  -- the sum of a key's parts, of the parts at the positions that pass
+  key_sum_where : (d : Dictionaries E) (job : Job E) (passes : ℕ → Bool) (key : KeyBytes) → key_sum d key (elements (parts_where passes 0 job.records)) ≡ fold_of d.add job key passes
+  key_sum_where d job passes key =
+      let b = batch_of job in
+      ap (sum_of (d.add key.store)) (of_elements key (parts_where passes 0 job.records)
+      ∙ (ap (map (λ (x : ℕ × E). x.1)) (values_where key passes b 0 job.records (job_batches job)) ∙ values_placed b (filter (λ x. passes x.0) (of_key job key))))
+
+  parts_of_valid : (d : Dictionaries E) (batch : ℕ) (parts : List (KeyBytes × E)) → AreValid d parts → AreValid d (elements (map (λ (part : KeyBytes × E). record { key = part.0; batch = batch; value = part.1 }) parts))
+  parts_of_valid d batch [] h = tt
+  parts_of_valid d batch (part ∷ parts) h = (h.0, parts_of_valid d batch parts h.1)
+
+  if_valid : (d : Dictionaries E) (r : Record E) (t : Bool) → IsRecord d r → AreValid d (elements (cond t (parts_of r) []))
+  if_valid d r true h = parts_of_valid d r.batch r.parts h.valid
+  if_valid d r false h = tt
+
+  pub where_valid : (d : Dictionaries E) (passes : ℕ → Bool) (i : ℕ) (records : List (Record E)) → AllByRecursion (IsRecord d) records → AreValid d (elements (parts_where passes i records))
+  where_valid d passes i [] h = tt
+  where_valid d passes i (r ∷ records) h =
+      elements_append d (cond (passes i) (parts_of r) []) (parts_where passes (suc i) records) (if_valid d r (passes i) h.0) (where_valid d passes (suc i) records h.1)
+
+  -- the parts at the positions of chunks stand for these
+  pub is_parcel : (d : Dictionaries E) (job : Job E) (passes : ℕ → Bool) (chunks : List ℕ) (parts : List (Part E)) → IsJobOf d job → parts ≡ parts_where passes 0 job.records
+      → ((i : ℕ) → i < length job.records → passes i ≡ is_in chunks (chunk_of job i)) → IsParcelOf d job all_keys (record { chunks = chunks; parts = parts })
+  is_parcel d job passes chunks parts valid are same = record {
+    sums = λ key j there. ap (sum_at d.add key j) are ∙ (sum_where d.add job passes key j
+        ∙ fold_where (d.add key.store) job key (λ i. passes i && (batch_of job i == j)) (λ i. true && (batch_of job i == j && is_in chunks (chunk_of job i)))
+        (λ i less. and_turn (passes i) (batch_of job i == j) ∙ ap (λ t. true && (batch_of job i == j && t)) (same i less)));
+    valid = subst (λ l. AreValid d (elements l)) (sym are) (where_valid d passes 0 job.records valid);
+  }
+
+  -- the sums of a batch's parts by key are its rows
+  pub are_rows : (d : Dictionaries E) (job : Job E) (p q : ℕ) (rows : List (KeyBytes × E)) → q ≡ p + 1 → AreKeySums d (elements (parts_where (λ i. batch_of job i == p) 0 job.records)) rows
+      → AreRowsBy d.stores d.add job all_keys (record { from = p; to = q; rows = rows })
+  are_rows d job p q rows e sums = record {
+    rising = sums.rising;
+    sums = λ key there. sums.sums key ∙ (key_sum_where d job (λ i. batch_of job i == p) key
+        ∙ fold_same (d.add key.store) (of_key job key) (λ i. batch_of job i == p) (λ i. true && (nat_le p (batch_of job i) && nat_lt (batch_of job i) q)) (λ i. same_batch (batch_of job i) p q _ _ _ e refl refl refl));
+  }

@@ -1,0 +1,5 @@
+use Rattle.sb_session.proofs.Emitted.{IsCounted}
+use Rattle.sb_session.proofs.emitting.batch_count.Given as goal
+
+abbrev pub invariant-loop-i : goal.invariant-loop-i
+invariant-loop-i g l = IsCounted l.i l.count (g.F.Feed.records l.feed)

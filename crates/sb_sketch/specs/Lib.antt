@@ -1,0 +1,5 @@
+pub mod Cells
+pub mod CellLaws
+pub mod Hash
+pub mod Cms
+pub mod Hll

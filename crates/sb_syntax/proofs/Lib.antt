@@ -1,0 +1,12 @@
+pub mod Answering
+pub mod Complete
+pub mod Depth
+pub mod Follow
+pub mod FollowExpressions
+pub mod FollowKinds
+pub mod FollowStatements
+pub mod Gives
+pub mod RoundTrip
+pub mod Says
+pub mod Texts
+pub mod Turns

@@ -1,0 +1,4 @@
+use Rattle.sb_syntax.proofs.rules.+expr.Given as goal
+
+abbrev pub decreases-expr : goal.decreases-expr
+decreases-expr l = l.depth

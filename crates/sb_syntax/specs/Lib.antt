@@ -1,0 +1,8 @@
+pub mod Answer
+pub mod Cursor
+pub mod Expressions
+pub mod Kinds
+pub mod Nests
+pub mod Programs
+pub mod Reading
+pub mod Statements

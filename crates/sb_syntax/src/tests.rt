@@ -1,0 +1,215 @@
+// Texts of programs, where they go wrong, and the limits.
+use crate::{Code, SyntaxError, parse, print};
+use std::alloc::Global;
+use std::process::Abort;
+use std::test::Fail;
+
+fn is_parsed(rt: &impl Abort, alloc: Global, text: &[u8]) {
+    assert_eq!(rt; parse(alloc, text).is_ok(), true);
+}
+
+fn fails(rt: &impl Abort, alloc: Global, text: &[u8], offset: u64, code: Code) {
+    match parse(alloc, text) {
+        Ok(_) => rt.abort(),
+        Err(e) => assert_eq!(rt; e, SyntaxError::At { offset, code }),
+    }
+}
+
+const WHOLE: &str = "# every production
+batch 1000 from -60000
+source tweets (body: text, map: int, seen: bool)
+source none_of ()
+service users (text -> int)
+let parts = tweets | flatMap words(lower(it.body), 64) | map (it, 1)
+let both = merge(parts, merge(parts | filter not it.2 > 3 and true or false, parts))
+store a = both | sumByKey sum
+store b = tweets | map (it.body, (it.map + 2 * 3 - 4 / 5 % 6, [1, -2])) | sumByKey pair(min, max)
+store c = tweets | map (len(it.body), if starts(it.body, \"a\\n\") then some(it) else none(opt(int))) | sumByKey first
+store d = tweets | map (it.body, empty(list(pair(int, bool), 3))) | leftJoin users | sumByKey map(last)
+store e = tweets | filter has(it) == (it.seen != false) | map (it, orelse(it, 0)) | sumByKey concat
+store f = tweets | map (it, 1 < 2) | filter 1 <= 2 | filter 1 >= 2 | sumByKey set
+store g = tweets | map (it, it) | sumByKey pair(top(3), pair(cms(2, 4), hll(6)))
+";
+
+#[test]
+fn texts_that_are_programs(rt: HostRuntime) -> Result<(), Fail> {
+    let alloc = rt.alloc();
+    is_parsed(&rt, alloc, b"batch 1000 from 0".as_slice());
+    is_parsed(&rt, alloc, b"batch 1 from -0 # and no more".as_slice());
+    is_parsed(&rt, alloc, WHOLE.as_bytes());
+    Ok(())
+}
+
+#[test]
+fn where_texts_go_wrong(rt: HostRuntime) -> Result<(), Fail> {
+    let alloc = rt.alloc();
+    fails(&rt, alloc, b"".as_slice(), 0, Code::End);
+    fails(
+        &rt,
+        alloc,
+        b"batch 0 from 0".as_slice(),
+        6,
+        Code::Unexpected,
+    );
+    fails(
+        &rt,
+        alloc,
+        b"batch 10a from 0".as_slice(),
+        6,
+        Code::BadToken,
+    );
+    fails(
+        &rt,
+        alloc,
+        b"batch 1000 from 0\nsource tweets (body text)".as_slice(),
+        38,
+        Code::Unexpected,
+    );
+    fails(&rt, alloc, b"batch 1000 from".as_slice(), 15, Code::End);
+    fails(
+        &rt,
+        alloc,
+        b"batch 1 from 0 let x = y | map it.3".as_slice(),
+        34,
+        Code::Unexpected,
+    );
+    fails(
+        &rt,
+        alloc,
+        b"batch 1 from 0 let source = y".as_slice(),
+        19,
+        Code::Unexpected,
+    );
+    fails(
+        &rt,
+        alloc,
+        b"batch 1 from 0 store x = y".as_slice(),
+        26,
+        Code::End,
+    );
+    Ok(())
+}
+
+// A statement of 8 tokens and two for each pair of parentheses.
+fn nested(alloc: Global, depth: u64) -> Result<Vec<u8>, Fail> {
+    let mut text = Vec::new(alloc);
+    text.extend_from_slice(b"batch 1 from 0 let x = y | map -")?;
+    for _ in 0..depth {
+        text.push(b'(')?;
+    }
+    text.extend_from_slice(b"it")?;
+    for _ in 0..depth {
+        text.push(b')')?;
+    }
+    Ok(text)
+}
+
+#[test]
+fn statements_have_at_most_256_tokens(rt: HostRuntime) -> Result<(), Fail> {
+    let alloc = rt.alloc();
+    let mut text = nested(alloc, 124)?;
+    let size = text.len() as u64;
+    is_parsed(&rt, alloc, text.as_slice());
+    text.extend_from_slice(b".a")?;
+    fails(&rt, alloc, text.as_slice(), size, Code::Long);
+    // Its last token but one is the 257th.
+    let deeper = nested(alloc, 125)?;
+    fails(&rt, alloc, deeper.as_slice(), 282, Code::Long);
+    // What fits nowhere is unexpected, as the 257th token too.
+    let mut wrong = nested(alloc, 124)?;
+    let size = wrong.len() as u64;
+    wrong.extend_from_slice(b"=")?;
+    fails(&rt, alloc, wrong.as_slice(), size, Code::Unexpected);
+    Ok(())
+}
+
+#[test]
+fn programs_have_at_most_256_statements(rt: HostRuntime) -> Result<(), Fail> {
+    let alloc = rt.alloc();
+    let mut text = Vec::new(alloc);
+    text.extend_from_slice(b"batch 1 from 0\n")?;
+    for _ in 0..255u64 {
+        text.extend_from_slice(b"let x = y\n")?;
+    }
+    is_parsed(&rt, alloc, text.as_slice());
+    let size = text.len() as u64;
+    text.extend_from_slice(b"let x = y\n")?;
+    fails(&rt, alloc, text.as_slice(), size, Code::Many);
+    Ok(())
+}
+
+// The text that is printed of a text's program.
+fn printed(rt: &impl Abort, alloc: Global, text: &[u8]) -> Result<Vec<u8>, Fail> {
+    let mut out = Vec::new(alloc);
+    match parse(alloc, text) {
+        Ok(program) => print(alloc, &program, &mut out)?,
+        Err(_) => rt.abort(),
+    }
+    Ok(out)
+}
+
+#[test]
+fn programs_are_printed_and_read_again(rt: HostRuntime) -> Result<(), Fail> {
+    let alloc = rt.alloc();
+    let head = printed(&rt, alloc, b"batch 1000 from 0".as_slice())?;
+    assert_eq!(&rt; head.as_slice(), b"batch 1000 from 0\n".as_slice());
+    let lines = b"batch 5 from - 7\nlet a = b | map ( it . 1 + 2 , - \"x\\n\" )\n".as_slice();
+    let again = printed(&rt, alloc, lines)?;
+    assert_eq!(&rt; again.as_slice(), lines);
+    let once = printed(&rt, alloc, WHOLE.as_bytes())?;
+    let twice = printed(&rt, alloc, once.as_slice())?;
+    assert_eq!(&rt; twice.as_slice(), once.as_slice());
+    Ok(())
+}
+
+// A batch head, and a statement in which a part is repeated.
+fn repeated(
+    alloc: Global,
+    start: &str,
+    part: &str,
+    times: u64,
+    middle: &str,
+    end: &str,
+) -> Result<Vec<u8>, Fail> {
+    let mut text = Vec::new(alloc);
+    text.extend_from_slice(b"batch 1 from 0 ")?;
+    text.extend_from_slice(start.as_bytes())?;
+    for _ in 0..times {
+        text.extend_from_slice(part.as_bytes())?;
+    }
+    text.extend_from_slice(middle.as_bytes())?;
+    for _ in 0..times {
+        text.extend_from_slice(end.as_bytes())?;
+    }
+    Ok(text)
+}
+
+// Each rule that is open in itself, or repeated, as often as 256 tokens allow.
+#[test]
+fn the_deepest_and_the_longest_statements(rt: HostRuntime) -> Result<(), Fail> {
+    let alloc = rt.alloc();
+    let cases = [
+        ("let x = y | map ", "- ", 249, "it", ""),
+        ("let x = y | map ", "not ", 249, "it", ""),
+        ("let x = y | map ", "if it then it else ", 49, "it", ""),
+        ("let x = y | map ", "some(", 83, "it", ")"),
+        ("let x = y | map ", "[", 124, "it", "]"),
+        ("let x = y | map none(", "opt(", 82, "int)", ")"),
+        ("let x = ", "merge(", 50, "y", ", y)"),
+        ("store x = y | sumByKey ", "map(", 83, "sum", ")"),
+        ("let x = y | map [it", ", it", 123, "]", ""),
+        ("let x = y | map it", " or it", 124, "", ""),
+        ("let x = y | map it", " and it", 124, "", ""),
+        ("let x = y | map it", " - it", 124, "", ""),
+        ("let x = y | map it", " % 7", 124, "", ""),
+        ("let x = y | map it", ".1", 124, "", ""),
+        ("let x = y", " | leftJoin z", 84, "", ""),
+        ("store x = y", " | leftJoin z", 83, " | sumByKey sum", ""),
+        ("source x (a: int", ", a: int", 62, ")", ""),
+    ];
+    for (start, part, times, middle, end) in cases {
+        let text = repeated(alloc, start, part, times, middle, end)?;
+        is_parsed(&rt, alloc, text.as_slice());
+    }
+    Ok(())
+}

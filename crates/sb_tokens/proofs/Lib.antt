@@ -1,0 +1,10 @@
+pub mod Bools
+pub mod CallerLemmas
+pub mod Keywords
+pub mod LeadingWords
+pub mod LexedSteps
+pub mod Passing
+pub mod Quotes
+pub mod QuotedUtf8
+pub mod Rereading
+pub mod Standing

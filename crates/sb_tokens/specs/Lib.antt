@@ -1,0 +1,9 @@
+pub mod Front
+pub mod Keyword
+pub mod Lexed
+pub mod Quote
+pub mod Symbol
+pub mod Token
+pub mod View
+pub mod Word
+pub mod Written
