@@ -14,4 +14,5 @@ pub mod RunReport
 pub mod Faults
 pub mod Lines
 pub mod Transcripts
+pub mod Settling
 pub mod TranscriptExamples

@@ -80,17 +80,17 @@ more_last (line.Row store key value ∷ lines) l = more_last lines l
 more_last (line.End ∷ lines) l = more_last lines l
 
 -- Behind these earlier lines the machine is here: they tell no chunk that isn't worked, and no greater number than it has.
-record IsBehind (run : Run) (lines : List TranscriptLine) (at : Progress) : Type 0 where
-  chunks : (shard : ℕ) → AllByRecursion (λ c. c < at.worked) (known_chunks run shard lines)
-  worked : AllByRecursion (λ c. c < at.worked) (flat_map worked_chunks lines)
-  published : (shard : ℕ) → known_published run shard lines ≤ at.published
-  last : last_published lines ≡ at.published
-  floor : (shard : ℕ) → known_floor run shard lines ≤ at.floor
-  chunk_limit : at.worked ≤ chunks_of run
-  batch_limit : at.published ≤ batches_of run
-  below : at.floor ≤ at.published
+pub record IsBehind (run : Run) (lines : List TranscriptLine) (at : Progress) : Type 0 where
+  pub chunks : (shard : ℕ) → AllByRecursion (λ c. c < at.worked) (known_chunks run shard lines)
+  pub worked : AllByRecursion (λ c. c < at.worked) (flat_map worked_chunks lines)
+  pub published : (shard : ℕ) → known_published run shard lines ≤ at.published
+  pub last : last_published lines ≡ at.published
+  pub floor : (shard : ℕ) → known_floor run shard lines ≤ at.floor
+  pub chunk_limit : at.worked ≤ chunks_of run
+  pub batch_limit : at.published ≤ batches_of run
+  pub below : at.floor ≤ at.published
 
-behind_start : (run : Run) → IsBehind run [] start
+pub behind_start : (run : Run) → IsBehind run [] start
 behind_start run = record {
   chunks = λ shard. tt;
   worked = tt;
@@ -110,7 +110,7 @@ number_told : (b : Bool) (n : ℕ) → cond b n 0 ≤ n
 number_told true n = omega arith
 number_told false n = omega arith
 
-behind_next : (run : Run) (lines : List TranscriptLine) (at : Progress) (a : Ask) → IsBehind run lines at → IsBehind run (lines ++ answer_line run at a ∷ []) (after run at a)
+pub behind_next : (run : Run) (lines : List TranscriptLine) (at : Progress) (a : Ask) → IsBehind run lines at → IsBehind run (lines ++ answer_line run at a ∷ []) (after run at a)
 behind_next run lines at (ask.Read store key) h = record {
   chunks = λ shard. more_chunks (told_chunks run shard) at.worked at.worked lines _ (omega arith) (h.chunks shard) (cover_told (key_shard run store key == shard) at.worked (cover_at at) (range_below 0 at.worked at.worked (omega arith)));
   worked = more_chunks worked_chunks at.worked at.worked lines _ (omega arith) h.worked tt;

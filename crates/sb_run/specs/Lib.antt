@@ -15,6 +15,7 @@ pub mod Schema
 pub mod ScriptOutput
 pub mod Sending
 pub mod Serving
+pub mod Settled
 pub mod Totals
 pub mod Transcript
 pub mod Value

@@ -108,46 +108,6 @@ fn part_of(alloc: Global, text: &Text, batch: u64, value: u64) -> Result<Part<u6
     })
 }
 
-// No record.
-#[derive(Drop)]
-struct NoLog {
-    sum: SumM,
-}
-
-impl Family for NoLog {
-    type M = SumM;
-
-    ghost stores = { λ _. 1 };
-
-    ghost dictionary = { λ log _. log.sum };
-
-    fn stores(&self) -> u32 {
-        1
-    }
-
-    fn monoid(&self, _store: u32) -> &SumM {
-        &self.sum
-    }
-}
-
-impl Feed for NoLog {
-    ghost use Rattle.std.specs.Prelude.{[]};
-
-    ghost records = { λ _. [] };
-
-    fn len(&self) -> u64 {
-        0
-    }
-
-    fn batch(&self, _i: u64) -> u64 {
-        0
-    }
-
-    fn emit(&self, _alloc: Global, _i: u64, _out: &mut Vec<Part<u64>>) -> Result<(), NoMemory> {
-        Ok(())
-    }
-}
-
 fn text_of(alloc: Global, bytes: &[u8]) -> Result<Text, Fail> {
     match Text::from_bytes(Vec::from_slice(alloc, bytes)?) {
         Some(text) => Ok(text),
@@ -173,6 +133,25 @@ where
         Some(cut) => Ok(Session::new(alloc, feed, cut)),
         None => Err(Fail::new("no cut")),
     }
+}
+
+// A session that has worked some chunks, then published the batches below one, and then worked some more.
+fn session_after<F: Feed>(
+    alloc: Global,
+    feed: &F,
+    first: u64,
+    published: u64,
+    then: u64,
+) -> Result<Session<u64>, Fail>
+where
+    F::M: Commuting<El = u64>,
+    ensures { IfOk result (IsOver (dictionaries F.M.valid F.M.add (F.stores feed.now) (F.dictionary feed.now)) (F.records feed.now)) }
+{
+    let mut session = session_over(alloc, feed)?;
+    session.work(alloc, feed, first)?;
+    session.publish(alloc, feed, published)?;
+    session.work(alloc, feed, then)?;
+    Ok(session)
 }
 
 // Reads a key, and compares its value, the number of published batches and the cover.
@@ -204,22 +183,35 @@ where
 fn a_read_merges_what_is_published_with_what_is_worked(rt: HostRuntime) -> Result<(), Fail> {
     let alloc = rt.alloc();
     let log = three_records(alloc)?;
+    let fresh = session_after(alloc, &log, 0, 0, 0)?;
+    expect_read(&rt, alloc, &log, &fresh, b"b", (None, 0, &[]))?;
+    let worked = session_after(alloc, &log, 1, 0, 0)?;
+    expect_read(&rt, alloc, &log, &worked, b"a", (Some(2), 0, &[0]))?;
+    let published = session_after(alloc, &log, 1, 1, 0)?;
+    expect_read(&rt, alloc, &log, &published, b"a", (Some(3), 1, &[0]))?;
+    Ok(())
+}
+
+#[test]
+fn late_chunks_of_a_published_batch_are_not_added(rt: HostRuntime) -> Result<(), Fail> {
+    let alloc = rt.alloc();
+    let log = three_records(alloc)?;
+    let late = session_after(alloc, &log, 1, 1, 4)?;
+    expect_read(&rt, alloc, &log, &late, b"a", (Some(3), 1, &[0, 1, 2]))?;
+    expect_read(&rt, alloc, &log, &late, b"b", (Some(1), 1, &[0, 1, 2]))?;
+    Ok(())
+}
+
+#[test]
+fn the_least_chunks_that_are_left_are_worked(rt: HostRuntime) -> Result<(), Fail> {
+    let alloc = rt.alloc();
+    let log = three_records(alloc)?;
     let mut session = session_over(alloc, &log)?;
-    expect_read(&rt, alloc, &log, &session, b"b", (None, 0, &[]))?;
     assert_eq!(rt; session.work(alloc, &log, 0)?.count(), 0);
-    let worked = session.work(alloc, &log, 1)?;
-    assert_eq!(rt; worked.as_slice(), [0].as_slice());
-    expect_read(&rt, alloc, &log, &session, b"a", (Some(2), 0, &[0]))?;
-    session.publish(alloc, &log, 1)?;
-    assert_eq!(rt; session.published(), 1);
-    expect_read(&rt, alloc, &log, &session, b"a", (Some(3), 1, &[0]))?;
-    let worked = session.work(alloc, &log, 4)?;
-    assert_eq!(rt; worked.as_slice(), [1, 2].as_slice());
-    expect_read(&rt, alloc, &log, &session, b"a", (Some(3), 1, &[0, 1, 2]))?;
-    expect_read(&rt, alloc, &log, &session, b"b", (Some(1), 1, &[0, 1, 2]))?;
+    assert_eq!(rt; session.work(alloc, &log, 1)?.as_slice(), [0].as_slice());
+    assert_eq!(rt; session.work(alloc, &log, 4)?.as_slice(), [1, 2].as_slice());
     session.publish(alloc, &log, 9)?;
     assert_eq!(rt; session.published(), 2);
-    expect_read(&rt, alloc, &log, &session, b"b", (Some(1), 2, &[0, 1, 2]))?;
     Ok(())
 }
 
@@ -227,9 +219,7 @@ fn a_read_merges_what_is_published_with_what_is_worked(rt: HostRuntime) -> Resul
 fn draining_works_the_chunks_that_are_left(rt: HostRuntime) -> Result<(), Fail> {
     let alloc = rt.alloc();
     let log = three_records(alloc)?;
-    let mut session = session_over(alloc, &log)?;
-    session.work(alloc, &log, 1)?;
-    session.publish(alloc, &log, 1)?;
+    let session = session_after(alloc, &log, 1, 1, 0)?;
     let rows = session.drain(alloc, &log)?;
     let expected = [("a", 3), ("b", 1)];
     assert_eq!(rt; rows.len(), 2);
@@ -237,18 +227,5 @@ fn draining_works_the_chunks_that_are_left(rt: HostRuntime) -> Result<(), Fail> 
         assert_eq!(rt; row.0.text.as_bytes(), key.as_bytes());
         assert_eq!(rt; row.1, sum);
     }
-    Ok(())
-}
-
-#[test]
-fn a_log_without_records(rt: HostRuntime) -> Result<(), Fail> {
-    let alloc = rt.alloc();
-    let log = NoLog { sum: SumM };
-    let mut session = session_over(alloc, &log)?;
-    assert_eq!(rt; session.work(alloc, &log, 5)?.count(), 0);
-    session.publish(alloc, &log, 5)?;
-    assert_eq!(rt; session.published(), 0);
-    expect_read(&rt, alloc, &log, &session, b"a", (None, 0, &[]))?;
-    assert!(rt; session.drain(alloc, &log)?.is_empty());
     Ok(())
 }
