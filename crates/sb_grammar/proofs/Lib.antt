@@ -1,4 +1,6 @@
+pub mod Faults
 pub mod Frames
+pub mod Fronts
 pub mod Instances
 pub mod Levels
 pub mod Lines

@@ -16,6 +16,6 @@ pub use expressions::{
     Add, AddRest, Atom, Cmp, CmpOp, Conj, Disj, Expr, Neg, Post, PostStep, Prod, ProdRest, Scalar,
     TypeTree, Unary,
 };
-pub use laws::programs_are_unique;
+pub use laws::{faults_are_unique, programs_are_unique};
 pub use printing::print;
 pub use programs::{FieldTree, Head, Many, MonoTree, Program, Stage, Statement, Stream};

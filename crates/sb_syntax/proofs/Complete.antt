@@ -1,19 +1,20 @@
 -- A program's tokens, within the limits, are read as it, unless memory fails.
-use Rattle.std.proofs.Common.{◌≡◌, ◌≤◌, ℕ, zero, suc, Bool, true, false, if◌then◌else◌, List, [], ◌∷◌, ◌++◌, map, length, Some, None, Result, Ok, Err}
+use Rattle.std.proofs.Common.{◌≡◌, ◌≤◌, ℕ, zero, suc, Bool, true, false, if◌then◌else◌, List, [], ◌∷◌, ◌++◌, length, None, Result, Ok, Err}
 use Rattle.std.proofs.Common.{refl, ap, sym, subst, ◌∙◌, append_assoc, append-nil, arith}
 use Rattle.std.specs.List.{AllByRecursion}
-use Rattle.std.proofs.lemmas.List.{append_cancel_left, append_cancel_right}
+use Rattle.std.proofs.lemmas.List.{append_cancel_left}
 use Rattle.sb_tokens.specs.Token.{Token}
 use Rattle.sb_tokens.specs.Lexed.{Lexed, Ending, ends, bad}
 use Rattle.sb_grammar.specs.declared.programs.Program.{Program}
 use Rattle.sb_grammar.specs.declared.programs.Statement.{Statement}
 use Rattle.sb_grammar.specs.Grammar.{Rule, Tree, Derives, statement, batch}
 use Rattle.sb_grammar.specs.Program.{joined, StatementsAre, IsProgram, IsShort, IsWhole, IsTextIn}
-use Rattle.sb_grammar.proofs.Machine.{Stop, ended, misfit}
+use Rattle.sb_grammar.proofs.Machine.{ended, misfit}
 use Rattle.sb_grammar.proofs.Levels.{Fits, level}
-use Rattle.sb_grammar.proofs.Whole.{run, all_alone}
+use Rattle.sb_grammar.proofs.Whole.{all_alone}
 use Rattle.sb_grammar.proofs.Place as place
 use Rattle.sb_grammar.proofs.Unique.{fits, program_of}
+use Rattle.sb_grammar.proofs.Fronts.{Front, SameNext, same_next, rule_of, reads_on}
 use Rattle.sb_syntax.specs.declared.fault.Fault.{Fault}
 use Rattle.sb_syntax.specs.declared.fault.Fault.TheVariants.{NoMemory, Deep, Ended, Misfit, Spent}
 use Rattle.sb_syntax.specs.Reading.{Input, Budget, Outcome, spend, ahead}
@@ -35,10 +36,6 @@ clash b h k = cc
 
 -- ---- a list in front of another
 
-pub record Front (ts us : List Token) : Type 0 where
-  pub more : List Token
-  pub is : us ≡ ts ++ more
-
 -- of two fronts of one list the shorter is in front of the longer
 fronts : (ts us v w : List Token) → ts ++ v ≡ us ++ w → length ts ≤ length us → Front ts us
 fronts [] us v w same short = record { more = us; is = refl }
@@ -53,16 +50,6 @@ not_empty : {C : Type 0} (xs ts : List Token) (x : Token) → [] ≡ xs ++ x ∷
 not_empty [] ts x h = cc
 not_empty (y ∷ xs) ts x h = cc
 
--- the next token of both
-pure_next : (ts : List Token) (x : Token) (rest after : List Token) → place.SameNext Token (λ x. x) (Unit {0}) (λ u. Some u) Bool (ts ++ x ∷ rest)
-    (ts ++ x ∷ after)
-pure_next [] x rest after = refl
-pure_next (y ∷ ts) x rest after = refl
-
-map-same : (ts : List Token) → map (λ x. x) ts ≡ ts
-map-same [] = refl
-map-same (x ∷ ts) = ap (λ l. x ∷ l) (map-same ts)
-
 same_self : (places : List (ℕ × Token)) → place.SameNext (ℕ × Token) (λ p. p.1) Budget spend Bool places (toks places)
 same_self [] = tt
 same_self (x ∷ places) = refl
@@ -74,47 +61,31 @@ Reaches a v ending (Ok p) = (p.0 ≡ a) × (toks p.1.places ≡ v) × (p.1.budge
 Reaches a v ending (Err e) = code_of e.0 e.1 ≡ None
 
 module _ (r : Rule) where
-  abbrev rule_of : List Token → Result (Tree r × List Token × Unit {0}) (Stop × List Token × Unit {0})
-  rule_of ts = run (Tree r) ts (r ∷ []) (λ f. f.0)
-
-  -- where the next token is the same, the tree is the same
-  again_of : (a : Tree r) (ts v w : List Token) → place.Took Token (λ x. x) (Unit {0}) (λ u. Some u) (Tree r) (ts ++ v) tt (r ∷ [])
-      (λ f. f.0) a v tt → place.SameNext Token (λ x. x) (Unit {0}) (λ u. Some u) Bool v w → rule_of (ts ++ w) ≡ Ok (a, w, tt)
-  again_of a ts v w took next =
-      let used : took.used ≡ ts = sym (append_cancel_right ts took.used v took.split) in
-      ap (λ l. rule_of (l ++ w)) (sym (map-same took.used ∙ used)) ∙ took.again w next
-
-  reads_on : (a : Tree r) (ts v w : List Token) → rule_of (ts ++ v) ≡ Ok (a, v, tt) → place.SameNext Token (λ x. x) (Unit {0})
-      (λ u. Some u) Bool v w → rule_of (ts ++ w) ≡ Ok (a, w, tt)
-  reads_on a ts v w e next = again_of a ts v w (subst (place.Tells Token (λ x. x) (Unit {0}) (λ u. Some u) (Tree r) (ts ++ v) tt (r ∷ [])
-      (λ f. f.0)) e (place.tells Token (λ x. x) (Unit {0}) (λ u. Some u) (Tree r) (ts ++ v) tt (r ∷ []) (λ f. f.0))) next
-
-  not_spent : {C : Type 0} (a : Tree r) (ts v : List Token) → rule_of (ts ++ v) ≡ Ok (a, v, tt) → length ts ≤ 256 → (used : List Token) (x : Token)
+  not_spent : {C : Type 0} (a : Tree r) (ts v : List Token) → rule_of r (ts ++ v) ≡ Ok (a, v, tt) → length ts ≤ 256 → (used : List Token) (x : Token)
       (rest after : List Token) (b : Tree r)
-      → ts ++ v ≡ used ++ x ∷ rest → length used ≡ 256 → rule_of ((used ++ x ∷ []) ++ after) ≡ Ok (b, [], tt) → C
+      → ts ++ v ≡ used ++ x ∷ rest → length used ≡ 256 → rule_of r ((used ++ x ∷ []) ++ after) ≡ Ok (b, [], tt) → C
   not_spent a ts v e short used x rest after b same full on =
       let f = fronts ts used v (x ∷ rest) same (omega (arith, short, full)) in
       let behind : v ≡ f.more ++ x ∷ rest = append_cancel_left ts v (f.more ++ x ∷ rest) (same ∙ ap (λ l. l ++ x ∷ rest) f.is
       ∙ append_assoc ts f.more (x ∷ rest)) in
-      let next : place.SameNext Token (λ y. y) (Unit {0}) (λ u. Some u) Bool v (f.more ++ x ∷ after) = subst (λ l. place.SameNext Token (λ y. y)
-      (Unit {0}) (λ u. Some u) Bool l (f.more ++ x ∷ after)) (sym behind) (pure_next f.more x rest after) in
-      let goes = reads_on a ts v (f.more ++ x ∷ after) e next in
+      let next : SameNext v (f.more ++ x ∷ after) = subst (λ l. SameNext l (f.more ++ x ∷ after)) (sym behind) (same_next f.more x rest after) in
+      let goes = reads_on r a ts v (f.more ++ x ∷ after) e next in
       let lists : (used ++ x ∷ []) ++ after ≡ ts ++ (f.more ++ x ∷ after) = append_assoc used (x ∷ []) after ∙ ap (λ l. l ++ x ∷ after) f.is
       ∙ append_assoc ts f.more (x ∷ after) in
-      let ends = both (rule_of (ts ++ (f.more ++ x ∷ after))) (b, [], tt) (a, f.more ++ x ∷ after, tt) (ap rule_of (sym lists) ∙ on) goes in
+      let ends = both (rule_of r (ts ++ (f.more ++ x ∷ after))) (b, [], tt) (a, f.more ++ x ∷ after, tt) (ap (rule_of r) (sym lists) ∙ on) goes in
       not_empty f.more after x (ap (λ y. y.1) ends)
 
   abbrev IsTaken : Input → Tree r → List Token → List Token → Type 0
-  IsTaken i a ts v = (i.budget.room ≡ 256) × (toks i.places ≡ ts ++ v) × IsShort ts × (rule_of (ts ++ v) ≡ Ok (a, v, tt)) × Fits (level r) []
+  IsTaken i a ts v = (i.budget.room ≡ 256) × (toks i.places ≡ ts ++ v) × IsShort ts × (rule_of r (ts ++ v) ≡ Ok (a, v, tt)) × Fits (level r) []
 
   stops_not : (i : Input) (a : Tree r) (ts v : List Token) → IsTaken i a ts v → (fault : Fault) (places : List (ℕ × Token)) (b : Budget)
       → SaysOf r i fault (record { places = places; budget = b }) → code_of fault (record { places = places; budget = b }) ≡ None
   unfolding code_of
-  stops_not i a ts v is Ended [] b pl = neither (rule_of (ts ++ v)) (a, v, tt) (ended, [], tt) is.3 (ap rule_of (sym is.1 ∙ ap toks (pl.split
+  stops_not i a ts v is Ended [] b pl = neither (rule_of r (ts ++ v)) (a, v, tt) (ended, [], tt) is.3 (ap (rule_of r) (sym is.1 ∙ ap toks (pl.split
       ∙ append-nil pl.used)) ∙ pl.here.1)
   stops_not i a ts v is Ended (x ∷ places) b pl = absurd pl.here
   stops_not i a ts v is Misfit [] b pl = absurd pl.here
-  stops_not i a ts v is Misfit (x ∷ places) b pl = neither (rule_of (ts ++ v)) (a, v, tt) (misfit, x.1 ∷ toks places, tt) is.3 (ap rule_of (sym is.1
+  stops_not i a ts v is Misfit (x ∷ places) b pl = neither (rule_of r (ts ++ v)) (a, v, tt) (misfit, x.1 ∷ toks places, tt) is.3 (ap (rule_of r) (sym is.1
       ∙ ap toks pl.split ∙ toks-append pl.used (x ∷ places)) ∙ pl.here.1 (toks places))
   stops_not i a ts v is Spent [] b pl = absurd pl.here
   stops_not i a ts v is Spent (x ∷ places) b pl =
@@ -133,7 +104,7 @@ module _ (r : Rule) where
   reached i a ts v is (Ok p) took =
       let room = spends took.used i.budget p.1.budget took.spends in
       let lists : toks i.places ≡ toks took.used ++ toks p.1.places = ap toks took.split ∙ toks-append took.used p.1.places in
-      let e = both (rule_of (ts ++ v)) (p.0, toks p.1.places, tt) (a, v, tt) (ap rule_of (sym is.1 ∙ lists) ∙ took.again (toks p.1.places)
+      let e = both (rule_of r (ts ++ v)) (p.0, toks p.1.places, tt) (a, v, tt) (ap (rule_of r) (sym is.1 ∙ lists) ∙ took.again (toks p.1.places)
       (same_self p.1.places)) is.3 in
       (ap (λ y. y.0) e, ap (λ y. y.1) e, room.1)
   reached i a ts v is (Err e) pl = stops_not i a ts v is e.0 e.1.places e.1.budget pl

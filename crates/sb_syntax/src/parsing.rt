@@ -1,10 +1,11 @@
-ghost use Rattle.std.specs.Prelude.{◌≡◌, ◌↔◌, List, length, IfOk, IfErr};
+ghost use Rattle.std.specs.Prelude.{◌≡◌, ◌⊎◌, ℕ, Err, IfOk, IfErr};
 ghost use Rattle.sb_grammar.specs.Program.{IsTextOf, FirstFault};
+ghost use Rattle.sb_grammar.specs.declared.code.Code.{Code};
 ghost use Rattle.sb_grammar.specs.declared.programs.Program.{Program};
 ghost use Rattle.sb_syntax.specs.Programs as spec;
 ghost use Rattle.sb_syntax.specs.Programs.{Gives};
 ghost use Rattle.sb_syntax.specs.Answer.{Explains};
-ghost use Rattle.sb_syntax.specs.declared.parsing.SyntaxError.TheVariants.{NoMemory};
+ghost use Rattle.sb_syntax.specs.declared.parsing.SyntaxError.TheVariants.{At, NoMemory};
 
 use crate::cursor::Cursor;
 use crate::statements::{batch, statement};
@@ -31,6 +32,9 @@ pub fn parse(alloc: Global, bytes: &[u8]) -> Result<Program, SyntaxError>
 
     // A program's text is answered by the program, unless memory fails.
     ensures every { (p : Program) → IsTextOf p bytes.now → IfOk result (λ q. q ≡ p) × IfErr result (λ e. e ≡ NoMemory) }
+
+    // The first wrong token of a text is answered, unless memory fails.
+    ensures fault { (offset : ℕ) (why : Code) → FirstFault bytes.now offset why → (result ≡ Err (At offset why)) ⊎ (result ≡ Err NoMemory) }
 {
     let mut tokens = Cursor::new(bytes);
     match program(alloc, &mut tokens) {

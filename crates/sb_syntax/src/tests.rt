@@ -4,17 +4,6 @@ use std::alloc::Global;
 use std::process::Abort;
 use std::test::Fail;
 
-fn is_parsed(rt: &impl Abort, alloc: Global, text: &[u8]) {
-    assert_eq!(rt; parse(alloc, text).is_ok(), true);
-}
-
-fn fails(rt: &impl Abort, alloc: Global, text: &[u8], offset: u64, code: Code) {
-    match parse(alloc, text) {
-        Ok(_) => rt.abort(),
-        Err(e) => assert_eq!(rt; e, SyntaxError::At { offset, code }),
-    }
-}
-
 const WHOLE: &str = "# every production
 batch 1000 from -60000
 source tweets (body: text, map: int, seen: bool)
@@ -31,77 +20,74 @@ store f = tweets | map (it, 1 < 2) | filter 1 <= 2 | filter 1 >= 2 | sumByKey se
 store g = tweets | map (it, it) | sumByKey pair(top(3), pair(cms(2, 4), hll(6)))
 ";
 
+fn is_parsed(rt: &impl Abort, alloc: Global, text: &[u8]) {
+    assert_eq!(rt; parse(alloc, text).is_ok(), true);
+}
+
+fn fails(rt: &impl Abort, alloc: Global, text: &[u8], offset: u64, code: Code) {
+    match parse(alloc, text) {
+        Ok(_) => rt.abort(),
+        Err(e) => assert_eq!(rt; e, SyntaxError::At { offset, code }),
+    }
+}
+
+// A batch head, and behind the start two parts that are repeated, with others between.
+fn repeated(
+    alloc: Global,
+    start: &str,
+    part: &str,
+    times: u64,
+    middle: &str,
+    end: &str,
+) -> Result<Vec<u8>, Fail> {
+    let mut text = Vec::new(alloc);
+    text.extend_from_slice(b"batch 1 from 0 ")?;
+    text.extend_from_slice(start.as_bytes())?;
+    for _ in 0..times {
+        text.extend_from_slice(part.as_bytes())?;
+    }
+    text.extend_from_slice(middle.as_bytes())?;
+    for _ in 0..times {
+        text.extend_from_slice(end.as_bytes())?;
+    }
+    Ok(text)
+}
+
 #[test]
 fn texts_that_are_programs(rt: HostRuntime) -> Result<(), Fail> {
     let alloc = rt.alloc();
-    is_parsed(&rt, alloc, b"batch 1000 from 0".as_slice());
-    is_parsed(&rt, alloc, b"batch 1 from -0 # and no more".as_slice());
-    is_parsed(&rt, alloc, WHOLE.as_bytes());
+    for text in ["batch 1000 from 0", "batch 1 from -0 # and no more", WHOLE] {
+        is_parsed(&rt, alloc, text.as_bytes());
+    }
     Ok(())
 }
 
 #[test]
 fn where_texts_go_wrong(rt: HostRuntime) -> Result<(), Fail> {
     let alloc = rt.alloc();
-    fails(&rt, alloc, b"".as_slice(), 0, Code::End);
-    fails(
-        &rt,
-        alloc,
-        b"batch 0 from 0".as_slice(),
-        6,
-        Code::Unexpected,
-    );
-    fails(
-        &rt,
-        alloc,
-        b"batch 10a from 0".as_slice(),
-        6,
-        Code::BadToken,
-    );
-    fails(
-        &rt,
-        alloc,
-        b"batch 1000 from 0\nsource tweets (body text)".as_slice(),
-        38,
-        Code::Unexpected,
-    );
-    fails(&rt, alloc, b"batch 1000 from".as_slice(), 15, Code::End);
-    fails(
-        &rt,
-        alloc,
-        b"batch 1 from 0 let x = y | map it.3".as_slice(),
-        34,
-        Code::Unexpected,
-    );
-    fails(
-        &rt,
-        alloc,
-        b"batch 1 from 0 let source = y".as_slice(),
-        19,
-        Code::Unexpected,
-    );
-    fails(
-        &rt,
-        alloc,
-        b"batch 1 from 0 store x = y".as_slice(),
-        26,
-        Code::End,
-    );
+    let cases = [
+        ("", 0, Code::End),
+        ("batch 0 from 0", 6, Code::Unexpected),
+        ("batch 10a from 0", 6, Code::BadToken),
+        (
+            "batch 1000 from 0\nsource tweets (body text)",
+            38,
+            Code::Unexpected,
+        ),
+        ("batch 1000 from", 15, Code::End),
+        ("batch 1 from 0 let x = y | map it.3", 34, Code::Unexpected),
+        ("batch 1 from 0 let source = y", 19, Code::Unexpected),
+        ("batch 1 from 0 store x = y", 26, Code::End),
+    ];
+    for (text, offset, code) in cases {
+        fails(&rt, alloc, text.as_bytes(), offset, code);
+    }
     Ok(())
 }
 
 // A statement of 8 tokens and two for each pair of parentheses.
 fn nested(alloc: Global, depth: u64) -> Result<Vec<u8>, Fail> {
-    let mut text = Vec::new(alloc);
-    text.extend_from_slice(b"batch 1 from 0 let x = y | map -")?;
-    for _ in 0..depth {
-        text.push(b'(')?;
-    }
-    text.extend_from_slice(b"it")?;
-    for _ in 0..depth {
-        text.push(b')')?;
-    }
-    Ok(text)
+    repeated(alloc, "let x = y | map -", "(", depth, "it", ")")
 }
 
 #[test]
@@ -117,7 +103,6 @@ fn statements_have_at_most_256_tokens(rt: HostRuntime) -> Result<(), Fail> {
     fails(&rt, alloc, deeper.as_slice(), 282, Code::Long);
     // What fits nowhere is unexpected, as the 257th token too.
     let mut wrong = nested(alloc, 124)?;
-    let size = wrong.len() as u64;
     wrong.extend_from_slice(b"=")?;
     fails(&rt, alloc, wrong.as_slice(), size, Code::Unexpected);
     Ok(())
@@ -126,11 +111,7 @@ fn statements_have_at_most_256_tokens(rt: HostRuntime) -> Result<(), Fail> {
 #[test]
 fn programs_have_at_most_256_statements(rt: HostRuntime) -> Result<(), Fail> {
     let alloc = rt.alloc();
-    let mut text = Vec::new(alloc);
-    text.extend_from_slice(b"batch 1 from 0\n")?;
-    for _ in 0..255u64 {
-        text.extend_from_slice(b"let x = y\n")?;
-    }
+    let mut text = repeated(alloc, "", "let x = y\n", 255, "", "")?;
     is_parsed(&rt, alloc, text.as_slice());
     let size = text.len() as u64;
     text.extend_from_slice(b"let x = y\n")?;
@@ -160,28 +141,6 @@ fn programs_are_printed_and_read_again(rt: HostRuntime) -> Result<(), Fail> {
     let twice = printed(&rt, alloc, once.as_slice())?;
     assert_eq!(&rt; twice.as_slice(), once.as_slice());
     Ok(())
-}
-
-// A batch head, and a statement in which a part is repeated.
-fn repeated(
-    alloc: Global,
-    start: &str,
-    part: &str,
-    times: u64,
-    middle: &str,
-    end: &str,
-) -> Result<Vec<u8>, Fail> {
-    let mut text = Vec::new(alloc);
-    text.extend_from_slice(b"batch 1 from 0 ")?;
-    text.extend_from_slice(start.as_bytes())?;
-    for _ in 0..times {
-        text.extend_from_slice(part.as_bytes())?;
-    }
-    text.extend_from_slice(middle.as_bytes())?;
-    for _ in 0..times {
-        text.extend_from_slice(end.as_bytes())?;
-    }
-    Ok(text)
 }
 
 // Each rule that is open in itself, or repeated, as often as 256 tokens allow.
