@@ -4,7 +4,7 @@ use Rattle.sb_io.specs.Faults.{Rose}
 use Rattle.sb_run.specs.Answer.{Command}
 use Rattle.sb_run.specs.Gathering.{IsCaused, IsCausedAt, name_of, RoseAt}
 use Rattle.sb_run.specs.declared.refusal.Refusal.{Refusal}
-use Rattle.sb_run.specs.declared.refusal.Refusal.TheVariants.{Usage, Shelf, NoMemory, Program, Log, Chunks, ScriptLonger, ScriptLine}
+use Rattle.sb_run.specs.declared.refusal.Refusal.TheVariants.{Usage, Shelf, NoMemory, ProgramLonger, Syntax, NotServed, Log, Chunks, ScriptLonger, ScriptLine}
 use Rattle.sb_run.specs.declared.refusal.Which.{Which}
 
 -- a fault of the fetch of one of the command's files, some time after the call began
@@ -15,7 +15,9 @@ caused command file name before mid now (Shelf told) named later cause =
     let rose : Rose (before name) (now name) = omega (arith, later, cause.1) in
     subst (λ f. RoseAt (name_of command f) before now) (sym cause.0) (subst (λ o. RoseAt o before now) (sym named) rose)
 caused command file name before mid now NoMemory named later cause = tt
-caused command file name before mid now Program named later cause = tt
+caused command file name before mid now ProgramLonger named later cause = tt
+caused command file name before mid now (Syntax offset why) named later cause = tt
+caused command file name before mid now NotServed named later cause = tt
 caused command file name before mid now Log named later cause = tt
 caused command file name before mid now Chunks named later cause = tt
 caused command file name before mid now ScriptLonger named later cause = tt

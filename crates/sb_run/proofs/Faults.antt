@@ -6,7 +6,7 @@ use Rattle.sb_run.specs.Answer.{Answer, batch, run}
 use Rattle.sb_run.specs.Call.{NamesFault}
 use Rattle.sb_run.specs.Gathering.{IsCaused, refusal_answer}
 use Rattle.sb_run.specs.declared.refusal.Refusal.{Refusal}
-use Rattle.sb_run.specs.declared.refusal.Refusal.TheVariants.{Usage, Shelf, NoMemory, Program, Log, Chunks, ScriptLonger, ScriptLine}
+use Rattle.sb_run.specs.declared.refusal.Refusal.TheVariants.{Usage, Shelf, NoMemory, ProgramLonger, Syntax, NotServed, Log, Chunks, ScriptLonger, ScriptLine}
 use Rattle.sb_run.specs.declared.refusal.Which.TheVariants as which
 use Rattle.sb_run.proofs.Endings.{PutEnds}
 
@@ -24,7 +24,9 @@ module _ (before now : List ℕ → ℕ) (told_before told_now : Option (List �
   batch_fault program log (Shelf which.Log) cause ends three = inr (cause, (put_three _ told_before told_now status ends three).1)
   batch_fault program log (Shelf which.Script) cause ends three = absurd cause
   batch_fault program log NoMemory cause ends three = let no = (put_three _ told_before told_now status ends three).0 in absurd (omega (arith, no))
-  batch_fault program log Program cause ends three = let no = (put_three _ told_before told_now status ends three).0 in absurd (omega (arith, no))
+  batch_fault program log ProgramLonger cause ends three = let no = (put_three _ told_before told_now status ends three).0 in absurd (omega (arith, no))
+  batch_fault program log (Syntax offset why) cause ends three = let no = (put_three _ told_before told_now status ends three).0 in absurd (omega (arith, no))
+  batch_fault program log NotServed cause ends three = let no = (put_three _ told_before told_now status ends three).0 in absurd (omega (arith, no))
   batch_fault program log Log cause ends three = let no = (put_three _ told_before told_now status ends three).0 in absurd (omega (arith, no))
   batch_fault program log Chunks cause ends three = let no = (put_three _ told_before told_now status ends three).0 in absurd (omega (arith, no))
   batch_fault program log ScriptLonger cause ends three = let no = (put_three _ told_before told_now status ends three).0 in absurd (omega (arith, no))
@@ -37,7 +39,9 @@ module _ (before now : List ℕ → ℕ) (told_before told_now : Option (List �
   run_fault program log script chunk (Shelf which.Log) cause ends three = inr (inl (cause, (put_three _ told_before told_now status ends three).1))
   run_fault program log script chunk (Shelf which.Script) cause ends three = inr (inr (cause, (put_three _ told_before told_now status ends three).1))
   run_fault program log script chunk NoMemory cause ends three = let no = (put_three _ told_before told_now status ends three).0 in absurd (omega (arith, no))
-  run_fault program log script chunk Program cause ends three = let no = (put_three _ told_before told_now status ends three).0 in absurd (omega (arith, no))
+  run_fault program log script chunk ProgramLonger cause ends three = let no = (put_three _ told_before told_now status ends three).0 in absurd (omega (arith, no))
+  run_fault program log script chunk (Syntax offset why) cause ends three = let no = (put_three _ told_before told_now status ends three).0 in absurd (omega (arith, no))
+  run_fault program log script chunk NotServed cause ends three = let no = (put_three _ told_before told_now status ends three).0 in absurd (omega (arith, no))
   run_fault program log script chunk Log cause ends three = let no = (put_three _ told_before told_now status ends three).0 in absurd (omega (arith, no))
   run_fault program log script chunk Chunks cause ends three = let no = (put_three _ told_before told_now status ends three).0 in absurd (omega (arith, no))
   run_fault program log script chunk ScriptLonger cause ends three = let no = (put_three _ told_before told_now status ends three).0 in absurd (omega (arith, no))

@@ -1,14 +1,12 @@
 pub mod Causes
 pub mod Endings
 pub mod Feeds
-pub mod FieldSteps
 pub mod Fields
 pub mod Forms
 pub mod KeySums
 pub mod Programs
 pub mod Records
 pub mod Sends
-pub mod Words
 pub mod Logged
 pub mod RunReport
 pub mod Faults

@@ -1,6 +1,10 @@
 -- What is due for the words of a command and the files that the shelf holds: a status, and the bytes that are written.
 use Rattle.std.specs.Prelude.{◌≡◌, ◌⊎◌, ℕ, ◌-◌, ◌^◌, ◌<◌, ◌≤◌, nat_lt, nat_le, Bool, ◌&&◌, codes, decimal, List, [], ◌∷◌, ◌++◌, length, Option, Some, None, Result, Ok, Err, option_and_then, if◌then◌else◌}
 use Rattle.std.specs.Str.{bytes_eq}
+use Rattle.sb_grammar.specs.Program.{IsTextOf, FirstFault}
+use Rattle.sb_grammar.specs.declared.code.Code.{Code}
+use Rattle.sb_grammar.specs.declared.code.Code.TheVariants as code
+use Rattle.sb_grammar.specs.declared.programs.Program.{Program as Tree}
 use Rattle.sb_io.specs.Shelf.{Content, Untold, Missing, Holds}
 use Rattle.sb_report.specs.Script.{script_of}
 use Rattle.sb_report.specs.declared.script.Ask.{Ask}
@@ -71,6 +75,20 @@ shelf_answer file = refusal 3 (codes "error 3 shelf " ++ file)
 abbrev pub memory_answer : Answer
 memory_answer = refusal 5 (codes "error 5 memory")
 
+abbrev pub program_longer_answer : Answer
+program_longer_answer = refusal 6 (codes "error 6 longer")
+
+abbrev pub code_name : Code → List ℕ
+code_name code.BadToken = codes "BadToken"
+code_name code.Unexpected = codes "Unexpected"
+code_name code.End = codes "End"
+code_name code.Long = codes "Long"
+code_name code.Many = codes "Many"
+
+-- the first wrong token of a program's text
+abbrev pub syntax_answer : ℕ → Code → Answer
+syntax_answer offset why = refusal 6 (codes "error 6 syntax " ++ (decimal offset ++ (codes " " ++ code_name why)))
+
 abbrev pub program_answer : Answer
 program_answer = refusal 6 (codes "error 6 notyet")
 
@@ -80,8 +98,8 @@ log_answer = refusal 7 (codes "error 7 notyet")
 abbrev pub chunks_answer : Answer
 chunks_answer = refusal 7 (codes "error 7 0 Chunks")
 
-abbrev pub longer_answer : Answer
-longer_answer = refusal 8 (codes "error 8 longer")
+abbrev pub script_longer_answer : Answer
+script_longer_answer = refusal 8 (codes "error 8 longer")
 
 abbrev pub script_answer : ℕ → Answer
 script_answer line = refusal 8 (codes "error 8 " ++ decimal line)
@@ -111,7 +129,7 @@ abbrev pub has_int_keys : Program → Bool
 has_int_keys program = is_int (field_at program.key program.fields).type
 
 abbrev pub ScriptDue : Run → Program → List ℕ → Answer → Type 0
-ScriptDue r program bytes due = ((4194304 < length bytes) × (due ≡ longer_answer)) ⊎ ((length bytes ≤ 4194304) × AsksDue r (script_of program.store (has_int_keys program) bytes) due)
+ScriptDue r program bytes due = ((4194304 < length bytes) × (due ≡ script_longer_answer)) ⊎ ((length bytes ≤ 4194304) × AsksDue r (script_of program.store (has_int_keys program) bytes) due)
 
 -- Runs have at most 65,536 chunks.
 abbrev pub RunDue : Run → Program → Content → Answer → Type 0
@@ -129,11 +147,20 @@ ReadDue task program (Ok records) due = RecordsDue task program records due
 abbrev pub LogDue : Task → Program → List ℕ → Answer → Type 0
 LogDue task program bytes due = ((67108864 < length bytes) × (due ≡ log_answer)) ⊎ ((length bytes ≤ 67108864) × ReadDue task program (log_of (schema_of program) bytes) due)
 
--- An accepted program goes on with its log.
+-- A program of the served form goes on with its log, every other one is refused.
+abbrev pub TreeDue : Task → Content → Tree → Answer → Type 0
+TreeDue task log tree due =
+    (((program : Program) → ¬ (Accepts tree program)) × (due ≡ program_answer))
+    ⊎ ((program : Program) × Accepts tree program × FileDue (codes "log") log (LogDue task program) due)
+
+-- A text has a first wrong token, or is that of a program.
+abbrev pub TextDue : Task → Content → List ℕ → Answer → Type 0
+TextDue task log bytes due =
+    ((offset : ℕ) × (why : Code) × FirstFault bytes offset why × (due ≡ syntax_answer offset why))
+    ⊎ ((tree : Tree) × IsTextOf tree bytes × TreeDue task log tree due)
+
 abbrev pub ProgramDue : Task → Content → List ℕ → Answer → Type 0
-ProgramDue task log bytes due =
-    (((program : Program) → ¬ (Accepts bytes program)) × (due ≡ program_answer))
-    ⊎ ((program : Program) × Accepts bytes program × FileDue (codes "log") log (LogDue task program) due)
+ProgramDue task log bytes due = ((65536 < length bytes) × (due ≡ program_longer_answer)) ⊎ ((length bytes ≤ 65536) × TextDue task log bytes due)
 
 -- what is due, in the order of the refusals: the words, the program, the log, the script
 abbrev pub IsDue : (List ℕ → Content) → Command → Answer → Type 0

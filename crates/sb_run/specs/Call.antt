@@ -2,9 +2,10 @@
 use Rattle.std.specs.Prelude.{◌≡◌, ◌⊎◌, ℕ, codes, List, map, Option, string_bytes}
 use Rattle.std.specs.declared.string.String.{String}
 use Rattle.std.specs.declared.alloc.Global.{Global}
+use Rattle.sb_grammar.specs.declared.code.Code.{Code}
 use Rattle.sb_io.specs.Faults.{Rose}
 use Rattle.sb_io.specs.Sink.{Appends}
-use Rattle.sb_run.specs.Answer.{Answer, Command, usage, batch, run, usage_answer, shelf_answer, program_answer, log_answer, chunks_answer, longer_answer, script_answer}
+use Rattle.sb_run.specs.Answer.{Answer, Command, usage, batch, run, usage_answer, shelf_answer, program_longer_answer, syntax_answer, program_answer, log_answer, chunks_answer, script_longer_answer, script_answer}
 
 abbrev pub texts : List (String Global) → List (List ℕ)
 texts = map string_bytes
@@ -30,6 +31,9 @@ abbrev pub Refuses : Command → ℕ → Option (List ℕ) → Option (List ℕ)
 Refuses command status before now =
     (status ≡ 0) ⊎ (status ≡ 3) ⊎ (status ≡ 4) ⊎ (status ≡ 5)
     ⊎ ((status ≡ 2) × (command ≡ usage) × Appends usage_answer.bytes before now)
-    ⊎ ((status ≡ 6) × Appends program_answer.bytes before now)
+    ⊎ ((status ≡ 6)
+    × (Appends program_longer_answer.bytes before now
+    ⊎ (((offset : ℕ) × (why : Code) × Appends (syntax_answer offset why).bytes before now)
+    ⊎ Appends program_answer.bytes before now)))
     ⊎ ((status ≡ 7) × (Appends log_answer.bytes before now ⊎ Appends chunks_answer.bytes before now))
-    ⊎ ((status ≡ 8) × (Appends longer_answer.bytes before now ⊎ ((line : ℕ) × Appends (script_answer line).bytes before now)))
+    ⊎ ((status ≡ 8) × (Appends script_longer_answer.bytes before now ⊎ ((line : ℕ) × Appends (script_answer line).bytes before now)))

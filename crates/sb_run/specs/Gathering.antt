@@ -3,16 +3,17 @@ use Rattle.std.specs.Prelude.{◌≡◌, ℕ, suc, codes, List, [], ◌∷◌, O
 use Rattle.std.specs.List.{AllByRecursion}
 use Rattle.std.specs.declared.vec.Vec.{Vec}
 use Rattle.std.specs.declared.alloc.Global.{Global}
+use Rattle.sb_grammar.specs.declared.programs.Program.{Program as Tree}
 use Rattle.sb_io.specs.Faults.{Rose}
 use Rattle.sb_io.specs.Shelf.{Content}
 use Rattle.sb_report.specs.Script.{script_of}
 use Rattle.sb_report.specs.declared.script.Ask.{Ask}
-use Rattle.sb_run.specs.Answer.{Answer, Command, usage, batch, run, Task, report, serve, FileDue, ProgramDue, LogDue, ReadDue, RecordsDue, ScriptDue, has_int_keys, done, usage_answer, shelf_answer, memory_answer, program_answer, log_answer, chunks_answer, longer_answer, script_answer}
+use Rattle.sb_syntax.specs.declared.parsing.SyntaxError.{SyntaxError}
+use Rattle.sb_syntax.specs.declared.parsing.SyntaxError.TheVariants.{At, NoMemory}
+use Rattle.sb_run.specs.Answer.{Answer, Command, usage, batch, run, Task, report, serve, FileDue, ProgramDue, TextDue, TreeDue, LogDue, ReadDue, RecordsDue, ScriptDue, has_int_keys, done, usage_answer, shelf_answer, memory_answer, program_longer_answer, syntax_answer, program_answer, log_answer, chunks_answer, script_longer_answer, script_answer}
 use Rattle.sb_run.specs.Feed.{IsTimed, feed_run}
 use Rattle.sb_run.specs.Log.{LogRecord as Record, log_of}
-use Rattle.sb_run.specs.Program as program
-use Rattle.sb_run.specs.Form.{Accepts}
-use Rattle.sb_run.specs.Program.{schema_of, report_of}
+use Rattle.sb_run.specs.Program.{schema_of}
 use Rattle.sb_run.specs.Run.{Run}
 use Rattle.sb_run.specs.ScriptOutput.{run_text}
 use Rattle.sb_run.specs.Totals.{rows_of}
@@ -37,27 +38,39 @@ abbrev pub refusal_answer : Refusal → Answer
 refusal_answer refused.Usage = usage_answer
 refusal_answer (refused.Shelf file) = shelf_answer (file_name file)
 refusal_answer refused.NoMemory = memory_answer
-refusal_answer refused.Program = program_answer
+refusal_answer refused.ProgramLonger = program_longer_answer
+refusal_answer (refused.Syntax offset why) = syntax_answer offset why
+refusal_answer refused.NotServed = program_answer
 refusal_answer refused.Log = log_answer
 refusal_answer refused.Chunks = chunks_answer
-refusal_answer refused.ScriptLonger = longer_answer
+refusal_answer refused.ScriptLonger = script_longer_answer
 refusal_answer (refused.ScriptLine line) = script_answer line
+
+-- the refusal of a text that isn't parsed
+abbrev pub syntax_refusal : SyntaxError → Refusal
+syntax_refusal (At offset why) = refused.Syntax offset why
+syntax_refusal NoMemory = refused.NoMemory
 
 -- a refusal that isn't a fault of the shelf or want of memory is the one that is due
 abbrev pub Refused : Refusal → Answer → Type 0
 Refused refused.Usage due = ⊥
 Refused (refused.Shelf file) due = Unit {0}
 Refused refused.NoMemory due = Unit {0}
-Refused refused.Program due = due ≡ program_answer
-Refused refused.Log due = due ≡ log_answer
-Refused refused.Chunks due = due ≡ chunks_answer
-Refused refused.ScriptLonger due = due ≡ longer_answer
-Refused (refused.ScriptLine line) due = due ≡ script_answer line
+Refused refusal due = due ≡ refusal_answer refusal
 
--- What is due with the program of a file is due with the one that is read.
+-- What is due here is due with the program that is read, and a refusal is the one that is due here.
+abbrev pub Reads : (Task → Content → Answer → Type 0) → Result Program Refusal → Type 0
+Reads Due (Ok program) = (task : Task) (log : Content) (due : Answer) → Due task log due → FileDue (codes "log") log (LogDue task (program_view program)) due
+Reads Due (Err refusal) = (task : Task) (log : Content) (due : Answer) → Due task log due → Refused refusal due
+
 abbrev pub ReadsProgram : Content → Result Program Refusal → Type 0
-ReadsProgram content (Ok program) = (task : Task) (log : Content) (due : Answer) → FileDue (codes "program") content (ProgramDue task log) due → FileDue (codes "log") log (LogDue task (program_view program)) due
-ReadsProgram content (Err refusal) = (task : Task) (log : Content) (due : Answer) → FileDue (codes "program") content (ProgramDue task log) due → Refused refusal due
+ReadsProgram content = Reads (λ task log. FileDue (codes "program") content (ProgramDue task log))
+
+abbrev pub ReadsText : List ℕ → Result Program Refusal → Type 0
+ReadsText text = Reads (λ task log. TextDue task log text)
+
+abbrev pub ReadsTree : Tree → Result Program Refusal → Type 0
+ReadsTree tree = Reads (λ task log. TreeDue task log tree)
 
 -- What is due with the log of a file is due with the records that are read.
 abbrev pub ReadsRecords : Program → Content → Result (Vec LogRecord Global) Refusal → Type 0
@@ -84,11 +97,11 @@ abbrev pub ReadsAsks : Program → Content → Result (Vec Ask Global) Refusal �
 ReadsAsks program content (Ok asks) = (r : Run) (due : Answer) → FileDue (codes "script") content (ScriptDue r (program_view program)) due → due ≡ done (run_text r asks.items)
 ReadsAsks program content (Err refusal) = (r : Run) (due : Answer) → FileDue (codes "script") content (ScriptDue r (program_view program)) due → Refused refusal due
 
-abbrev pub ReadsText : Program → List ℕ → Result (Vec Ask Global) Refusal → Type 0
-ReadsText program bytes (Ok asks) = script_of program.store (has_int_keys (program_view program)) bytes ≡ Ok asks.items
-ReadsText program bytes (Err (refused.ScriptLine line)) = script_of program.store (has_int_keys (program_view program)) bytes ≡ Err line
-ReadsText program bytes (Err refused.NoMemory) = Unit {0}
-ReadsText program bytes (Err other) = ⊥
+abbrev pub ReadsScript : Program → List ℕ → Result (Vec Ask Global) Refusal → Type 0
+ReadsScript program bytes (Ok asks) = script_of program.store (has_int_keys (program_view program)) bytes ≡ Ok asks.items
+ReadsScript program bytes (Err (refused.ScriptLine line)) = script_of program.store (has_int_keys (program_view program)) bytes ≡ Err line
+ReadsScript program bytes (Err refused.NoMemory) = Unit {0}
+ReadsScript program bytes (Err other) = ⊥
 
 -- the sums of the files of `batch` make the report that is due
 abbrev pub Gathers : Content → Content → Result Summed Refusal → Type 0
@@ -126,10 +139,3 @@ abbrev pub IsCaused : Command → (List ℕ → ℕ) → (List ℕ → ℕ) → 
 IsCaused command before now refused.Usage = ⊥
 IsCaused command before now (refused.Shelf file) = RoseAt (name_of command file) before now
 IsCaused command before now other = Unit {0}
-
--- a text is accepted with this program, which is the only one, or with none
-abbrev pub Accepted : List ℕ → Result Program Refusal → Type 0
-Accepted text (Ok program') = Accepts text (program_view program') × ((other : program.Program) → Accepts text other → other ≡ program_view program')
-Accepted text (Err refused.Program) = (other : program.Program) → ¬ (Accepts text other)
-Accepted text (Err refused.NoMemory) = Unit {0}
-Accepted text (Err other) = ⊥

@@ -6,9 +6,7 @@ pub mod Fold
 pub mod Form
 pub mod Gathering
 pub mod Log
-pub mod Names
 pub mod Program
-pub mod Reading
 pub mod Report
 pub mod Run
 pub mod Schema

@@ -1,5 +1,6 @@
 -- What contracts see of the Rust types.
-use Rattle.std.specs.Prelude.{◌≡◌, ℕ, ℤ, Bool, ◌||◌, nat_lt, List, ◌++◌, length, map, Option, Some, None, Result, Ok, Err, if◌then◌else◌}
+use Rattle.std.specs.Prelude.{◌≡◌, ℕ, ℤ, Bool, ◌||◌, nat_lt, not, bytes_eq, List, ◌++◌, length, map, Option, Some, None, Result, Ok, Err, if◌then◌else◌}
+use Rattle.std.specs.List.{prefix_len}
 use Rattle.std.specs.Borrow.{Bor}
 use Rattle.std.specs.declared.vec.Vec.{Vec}
 use Rattle.std.specs.declared.alloc.Global.{Global}
@@ -17,6 +18,8 @@ use Rattle.sb_run.specs.declared.log.LogRecord.{LogRecord}
 use Rattle.sb_run.specs.declared.log.Value.{Value}
 use Rattle.sb_run.specs.declared.log.Value.TheVariants as value_kind
 use Rattle.sb_run.specs.declared.emission.Emission as emitted
+use Rattle.sb_grammar.specs.declared.programs.FieldTree.{FieldTree}
+use Rattle.sb_run.specs.declared.outline.Outline.{Outline}
 use Rattle.sb_run.specs.declared.program.Field.{Field}
 use Rattle.sb_run.specs.declared.program.Program.{Program}
 use Rattle.sb_run.specs.declared.program.Schema.{Schema}
@@ -91,6 +94,13 @@ emissions_view emissions = map emission_view emissions.items
 
 abbrev pub fields_view : Vec Field Global → List program.Field
 fields_view fields = map field_view fields.items
+
+-- the place of the first field of a name, or the number of fields
+abbrev pub first_named : List ℕ → List Field → ℕ
+first_named name fields = prefix_len (λ field. not (bytes_eq field.name name)) fields
+
+abbrev pub outline_view : Outline → List ℕ × (List FieldTree × (List ℕ × (List ℕ × List ℕ)))
+outline_view outline = (outline.source.now, (outline.fields.now, (outline.store.now, (outline.key.now, outline.value.now))))
 
 -- a program is read, and it is this one
 abbrev pub IsReadAs : Option Program → program.Program → Type 0

@@ -1,51 +1,122 @@
-// The three-line form of a program: which programs have one, and its text.
-ghost use Rattle.std.specs.Prelude.{◌≡◌, ◌++◌, ◌&&◌, true, false, nat_lt, map, length, IfOk, OnOk, IfSome};
+// Programs of the served form: which they are, and the one that a tree is of.
+ghost use Rattle.std.specs.Prelude.{◌≡◌, ◌&&◌, ℤ, true, pos, nat_lt, int_lt, unsigned_abs, map, length, IfOk, IfSome, Some};
 ghost use Rattle.std.specs.List.{list_all, list_any};
 ghost use Rattle.std.specs.Str.{bytes_eq};
-ghost use Rattle.sb_run.specs.Form.{Accepts, field_text, fields_text, type_text, field_at, name_at, batch_line, source_line, pair_text, summing_text, store_line, program_text, is_served, is_int, is_named_and_served, are_distinct, is_batch_length, is_start, are_batches, are_two_names, are_fields, is_accepted};
-ghost use Rattle.sb_run.specs.Names.{is_name};
+ghost use Rattle.sb_run.specs.Form.{Accepts, field_at, scalar_tree, field_tree, is_served, is_int, is_named_and_served, are_distinct, is_batch_length, is_start, are_batches, are_fields, is_accepted};
 ghost use Rattle.sb_run.specs.Program as spec;
-ghost use Rattle.sb_run.specs.Views.{field_view, program_view, IsReadAs};
+ghost use Rattle.sb_run.specs.Views.{field_view, fields_view, program_view, first_named, IsReadAs};
 
-use crate::naming::is_name;
+use crate::outline::{Outline, outline_of};
 use crate::program::{Field, FieldType, Program};
-use crate::reading::program_in;
-use sb_text::{NoMemory, write_i64, write_u64};
+use sb_syntax::{FieldTree, Program as Tree, Scalar};
+use sb_text::{NoMemory, Text};
+use sb_tokens::Keyword;
 use std::alloc::Global;
-
-/// The most bytes of a program's text.
-pub const PROGRAM_LIMIT: usize = 65_536;
 
 const LENGTH_LIMIT: u64 = 9_223_372_036_854_775_807;
 
-/// The program that a text is; `None` exactly where it isn't an accepted one.
-pub fn read_program(alloc: Global, text: &[u8]) -> Result<Option<Program>, NoMemory>
-    ensures some { IfOk result (λ program. IfSome program (λ p. Accepts text.now (program_view p))) }
-    ensures every { IfOk result (λ program. (other : spec.Program) → Accepts text.now other → IsReadAs program other) }
+/// The program of the served form that a tree is of; `None` exactly where there is none.
+pub fn program_of(alloc: Global, tree: &Tree) -> Result<Option<Program>, NoMemory>
+    ensures some { IfOk result (λ program. IfSome program (λ p. Accepts tree.now (program_view p))) }
+    ensures every { IfOk result (λ program. (other : spec.Program) → Accepts tree.now other → IsReadAs program other) }
 {
-    let program = program_in(alloc, text)?;
-    if spells(alloc, text, &program)? {
+    let Some(from) = start_of(tree.minus, tree.from) else {
+        return Ok(None);
+    };
+    let Some(outline) = outline_of(tree.statements.as_slice()) else {
+        return Ok(None);
+    };
+    let program = named_program(alloc, tree.length, from, outline)?;
+    if is_accepted(&program) {
         Ok(Some(program))
     } else {
         Ok(None)
     }
 }
 
-// Whether the text is accepted and is that of this program.
-fn spells(alloc: Global, text: &[u8], program: &Program) -> Result<bool, NoMemory>
-    ensures yes { IfOk result (λ is. is ≡ true → Accepts text.now (program_view program.now)) }
-    ensures no { IfOk result (λ is. is ≡ false → ¬ (Accepts text.now (program_view program.now))) }
+// The start with its sign; `None` for -0 and the numbers from 2^63 on.
+fn start_of(minus: bool, from: u64) -> Option<i64>
+    ensures some { IfSome result (λ start. (minus ≡ int_lt start (pos 0)) × (from ≡ unsigned_abs start)) }
+    ensures every { (start : ℤ) → is_start start ≡ true → minus ≡ int_lt start (pos 0) → from ≡ unsigned_abs start → result ≡ Some start }
 {
-    if text.len() > PROGRAM_LIMIT || !is_accepted(program) {
-        return Ok(false);
+    if from > LENGTH_LIMIT || (minus && from == 0) {
+        return None;
     }
-    Ok(program_text(alloc, program)?.as_slice() == text)
+    let start = from as i64;
+    Some(if minus { -start } else { start })
+}
+
+// The program with these parts, with the places of its key and value.
+fn named_program(
+    alloc: Global,
+    length: u64,
+    from: i64,
+    outline: Outline<'_>,
+) -> Result<Program, NoMemory>
+    ensures head { IfOk result (λ p. (p.length ≡ length) × (p.from ≡ from)) }
+    ensures names { IfOk result (λ p. (p.source ≡ outline.entry.source.now) × (p.store ≡ outline.entry.store.now)) }
+    ensures fields { IfOk result (λ p. map field_tree (fields_view p.fields) ≡ outline.entry.fields.now) }
+    ensures places { IfOk result (λ p. (p.key ≡ first_named outline.entry.key.now p.fields.items) × (p.value ≡ first_named outline.entry.value.now p.fields.items)) }
+{
+    let fields = fields_of(alloc, outline.fields)?;
+    let key = place_of(outline.key.as_bytes(), &fields);
+    let value = place_of(outline.value.as_bytes(), &fields);
+    Ok(Program {
+        length,
+        from,
+        source: outline.source.copy(alloc)?,
+        fields,
+        store: outline.store.copy(alloc)?,
+        key,
+        value,
+    })
+}
+
+fn fields_of(alloc: Global, trees: &[FieldTree]) -> Result<Vec<Field>, NoMemory>
+    ensures { IfOk result (λ fields. map field_tree (fields_view fields) ≡ trees.now) }
+{
+    let mut fields = Vec::with_capacity(alloc, trees.len())?;
+    for tree in trees {
+        fields.push(field_of(alloc, tree)?)?;
+    }
+    Ok(fields)
+}
+
+fn field_of(alloc: Global, tree: &FieldTree) -> Result<Field, NoMemory>
+    ensures { IfOk result (λ field. field_tree (field_view field) ≡ tree.now) }
+{
+    Ok(Field {
+        name: tree.name.copy(alloc)?,
+        field_type: type_of(tree.scalar),
+    })
+}
+
+fn type_of(scalar: Scalar) -> FieldType
+    ensures { scalar_tree result ≡ scalar }
+{
+    match scalar {
+        Scalar::Int => FieldType::Int,
+        Scalar::Text => FieldType::Text,
+        Scalar::Bool => FieldType::Bool,
+    }
+}
+
+// The place of the first field of a name, or the number of fields.
+fn place_of(name: &[u8], fields: &[Field]) -> usize
+    ensures { result ≡ first_named name.now fields.now }
+{
+    fields
+        .iter()
+        .take_while(|field| field.name.as_bytes() != name)
+        .count()
 }
 
 fn is_accepted(program: &Program) -> bool
     ensures { result ≡ is_accepted (program_view program.now) }
 {
-    are_batches(program) && are_two_names(program) && are_fields(program)
+    are_batches(program)
+        && program.source.as_bytes() != program.store.as_bytes()
+        && are_fields(program)
 }
 
 fn are_batches(program: &Program) -> bool
@@ -64,14 +135,6 @@ fn is_start(from: i64) -> bool
     ensures { result ≡ is_start from }
 {
     i64::MIN < from
-}
-
-fn are_two_names(program: &Program) -> bool
-    ensures { result ≡ are_two_names (program_view program.now) }
-{
-    let source = program.source.as_bytes();
-    let store = program.store.as_bytes();
-    is_name(source) && is_name(store) && source != store
 }
 
 fn are_fields(program: &Program) -> bool
@@ -105,7 +168,7 @@ fn are_named(fields: &[Field]) -> bool
     ensures { result ≡ list_all is_named_and_served (map field_view fields.now) }
 {
     for field in fields {
-        if !is_name(field.name.as_bytes()) || !is_served(field.field_type) {
+        if Keyword::from_bytes(field.name.as_bytes()).is_some() || !is_served(field.field_type) {
             return false;
         }
     }
@@ -145,107 +208,4 @@ pub fn is_int_at(place: usize, fields: &[Field]) -> bool
         Some(field) => field.field_type == FieldType::Int,
         None => false,
     }
-}
-
-fn type_text(field: FieldType) -> &'static [u8]
-    ensures { result.now ≡ type_text field }
-{
-    match field {
-        FieldType::Int => b"int",
-        FieldType::Text => b"text",
-        FieldType::Bool => b"bool",
-    }
-}
-
-fn push_field(out: &mut Vec<u8>, field: &Field) -> Result<(), NoMemory>
-    ensures { OnOk result (out.new.items ≡ out.old.items ++ field_text (field_view field.now)) }
-{
-    out.extend_from_slice(field.name.as_bytes())?;
-    out.extend_from_slice(b": ")?;
-    out.extend_from_slice(type_text(field.field_type))
-}
-
-fn push_fields(out: &mut Vec<u8>, fields: &[Field]) -> Result<(), NoMemory>
-    ensures { OnOk result (out.new.items ≡ out.old.items ++ fields_text (map field_view fields.now)) }
-{
-    let [first, others @ ..] = fields else {
-        return Ok(());
-    };
-    push_field(out, first)?;
-    for field in others {
-        out.extend_from_slice(b", ")?;
-        push_field(out, field)?;
-    }
-    Ok(())
-}
-
-fn name_at(place: usize, fields: &[Field]) -> &[u8]
-    ensures { result.now ≡ name_at place (map field_view fields.now) }
-{
-    match fields.get(place) {
-        Some(field) => field.name.as_bytes(),
-        None => &[],
-    }
-}
-
-fn push_batch_line(alloc: Global, out: &mut Vec<u8>, program: &Program) -> Result<(), NoMemory>
-    ensures { OnOk result (out.new.items ≡ out.old.items ++ batch_line (program_view program.now)) }
-{
-    out.extend_from_slice(b"batch ")?;
-    write_u64(alloc, out, program.length)?;
-    out.extend_from_slice(b" from ")?;
-    write_i64(alloc, out, program.from)?;
-    out.extend_from_slice(b"\n")
-}
-
-fn push_source_line(out: &mut Vec<u8>, program: &Program) -> Result<(), NoMemory>
-    ensures { OnOk result (out.new.items ≡ out.old.items ++ source_line (program_view program.now)) }
-{
-    out.extend_from_slice(b"source ")?;
-    out.extend_from_slice(program.source.as_bytes())?;
-    out.extend_from_slice(b" (")?;
-    push_fields(out, &program.fields)?;
-    out.extend_from_slice(b")\n")
-}
-
-fn push_pair(out: &mut Vec<u8>, key: &[u8], value: &[u8]) -> Result<(), NoMemory>
-    ensures { OnOk result (out.new.items ≡ out.old.items ++ pair_text key.now value.now) }
-{
-    out.extend_from_slice(b"map (it.")?;
-    out.extend_from_slice(key)?;
-    out.extend_from_slice(b", it.")?;
-    out.extend_from_slice(value)?;
-    out.extend_from_slice(b")")
-}
-
-fn push_summing(out: &mut Vec<u8>, program: &Program) -> Result<(), NoMemory>
-    ensures { OnOk result (out.new.items ≡ out.old.items ++ summing_text (program_view program.now)) }
-{
-    let key = name_at(program.key, &program.fields);
-    let value = name_at(program.value, &program.fields);
-    out.extend_from_slice(b" | ")?;
-    push_pair(out, key, value)?;
-    out.extend_from_slice(b" | sumByKey sum\n")?;
-    Ok(())
-}
-
-fn push_store_line(out: &mut Vec<u8>, program: &Program) -> Result<(), NoMemory>
-    ensures { OnOk result (out.new.items ≡ out.old.items ++ store_line (program_view program.now)) }
-{
-    out.extend_from_slice(b"store ")?;
-    out.extend_from_slice(program.store.as_bytes())?;
-    out.extend_from_slice(b" = ")?;
-    out.extend_from_slice(program.source.as_bytes())?;
-    push_summing(out, program)
-}
-
-// The text of a program.
-fn program_text(alloc: Global, program: &Program) -> Result<Vec<u8>, NoMemory>
-    ensures { IfOk result (λ text. text.items ≡ program_text (program_view program.now)) }
-{
-    let mut out = Vec::new(alloc);
-    push_batch_line(alloc, &mut out, program)?;
-    push_source_line(&mut out, program)?;
-    push_store_line(&mut out, program)?;
-    Ok(out)
 }

@@ -1,15 +1,18 @@
 // The files of a command.
-ghost use Rattle.std.specs.Prelude.{◌<◌, IfOk, IfErr};
+ghost use Rattle.std.specs.Prelude.{◌<◌, ℕ, List, IfOk, IfErr};
 ghost use Rattle.sb_io.specs.Shelf.{Fetches};
-ghost use Rattle.sb_run.specs.Gathering.{Accepted, ReadsProgram, ReadsRecords, ReadsBytes, AreLogged, ReadsAsks, ReadsText, IsCausedAt};
+ghost use Rattle.sb_run.specs.Gathering.{ReadsProgram, ReadsText, ReadsTree, ReadsRecords, ReadsBytes, AreLogged, ReadsAsks, ReadsScript, IsCausedAt};
 
-use crate::form::{PROGRAM_LIMIT, is_int_at, read_program};
+use crate::form::{is_int_at, program_of};
 use crate::log::{LogError, LogRecord, read_log};
 use crate::program::Program;
 use crate::refusal::{Refusal, Which};
 use sb_io::{Fetched, Shelf, ShelfError};
 use sb_report::{Ask, ScriptError, read_script};
+use sb_syntax::{Program as Tree, parse};
 use std::alloc::Global;
+
+const PROGRAM_LIMIT: u64 = 65_536;
 
 const LOG_LIMIT: u64 = 67_108_864;
 
@@ -22,22 +25,35 @@ pub fn fetch_program<H: Shelf>(alloc: Global, shelf: &mut H, name: &str) -> Resu
     ensures frame { Fetches name.now (H.content shelf.old) (H.content shelf.new) (H.faults shelf.old) (H.faults shelf.new) }
     ensures cause { IfErr result (IsCausedAt Which.Program name.now (H.faults shelf.old) (H.faults shelf.new)) }
 {
-    match shelf.fetch(alloc, name, PROGRAM_LIMIT as u64) {
-        Ok(Fetched::All(text)) => accept(alloc, &text),
-        Ok(Fetched::Longer) => Err(Refusal::Program),
+    match shelf.fetch(alloc, name, PROGRAM_LIMIT) {
+        Ok(Fetched::All(text)) => read_text(alloc, &text),
+        Ok(Fetched::Longer) => Err(Refusal::ProgramLonger),
         Err(ShelfError::Failed) => Err(Refusal::Shelf(Which::Program)),
         Err(ShelfError::NoMemory) => Err(Refusal::NoMemory),
     }
 }
 
-// The program that a text is, where it is accepted.
-fn accept(alloc: Global, text: &[u8]) -> Result<Program, Refusal>
+// The program of a text.
+fn read_text(alloc: Global, text: &[u8]) -> Result<Program, Refusal>
     ensures length { IfOk result (λ program. 0 < program.length) }
-    ensures accepts { Accepted text.now result }
+    ensures read { ReadsText text.now result }
+    ensures cause { (name : List ℕ) (before now : List ℕ → ℕ) → IfErr result (IsCausedAt Which.Program name before now) }
 {
-    match read_program(alloc, text) {
+    match parse(alloc, text) {
+        Ok(tree) => accept(alloc, &tree),
+        Err(error) => Err(Refusal::of_syntax(error)),
+    }
+}
+
+// The program of a tree, where it is of the served form.
+fn accept(alloc: Global, tree: &Tree) -> Result<Program, Refusal>
+    ensures length { IfOk result (λ program. 0 < program.length) }
+    ensures read { ReadsTree tree.now result }
+    ensures cause { (name : List ℕ) (before now : List ℕ → ℕ) → IfErr result (IsCausedAt Which.Program name before now) }
+{
+    match program_of(alloc, tree) {
         Ok(Some(program)) => Ok(program),
-        Ok(None) => Err(Refusal::Program),
+        Ok(None) => Err(Refusal::NotServed),
         Err(_) => Err(Refusal::NoMemory),
     }
 }
@@ -98,7 +114,7 @@ pub fn fetch_script<H: Shelf>(
 }
 
 fn read_asks(alloc: Global, program: &Program, bytes: &[u8]) -> Result<Vec<Ask>, Refusal>
-    ensures { ReadsText program.now bytes.now result }
+    ensures { ReadsScript program.now bytes.now result }
 {
     match read_script(
         alloc,

@@ -1,8 +1,10 @@
-ghost use Rattle.std.specs.Prelude.{◌≡◌, ◌≤◌, ◌+◌, ◌++◌, codes, decimal, length};
-ghost use Rattle.sb_run.specs.Gathering.{refusal_answer};
+ghost use Rattle.std.specs.Prelude.{◌≡◌, ◌≤◌, ◌+◌, ◌++◌, ℕ, List, codes, decimal, length};
+ghost use Rattle.sb_run.specs.Answer.{code_name};
+ghost use Rattle.sb_run.specs.Gathering.{refusal_answer, syntax_refusal, IsCausedAt};
 
 use arrayvec::ArrayString;
 use itoa::Buffer;
+use sb_syntax::{Code, SyntaxError};
 
 /// An error line with its LF, in a fixed room.
 pub type ErrorLine = ArrayString<64>;
@@ -23,8 +25,12 @@ pub enum Refusal {
     /// A fault of the shelf at this file.
     Shelf(Which),
     NoMemory,
-    /// The program isn't an accepted one.
-    Program,
+    /// The program has more than 65,536 bytes.
+    ProgramLonger,
+    /// The program's first wrong token.
+    Syntax { offset: u64, code: Code },
+    /// The program isn't of the served form.
+    NotServed,
     /// The log isn't an accepted one.
     Log,
     /// The log has more than 65,536 chunks.
@@ -36,6 +42,17 @@ pub enum Refusal {
 }
 
 impl Refusal {
+    /// The refusal of a program's text that isn't parsed.
+    pub fn of_syntax(error: SyntaxError) -> Refusal
+        ensures value { result ≡ syntax_refusal error }
+        ensures cause { (name : List ℕ) (before now : List ℕ → ℕ) → IsCausedAt Which.Program name before now result }
+    {
+        match error {
+            SyntaxError::At { offset, code } => Refusal::Syntax { offset, code },
+            SyntaxError::NoMemory => Refusal::NoMemory,
+        }
+    }
+
     /// The status of the refusal.
     pub fn status(self) -> u8
         ensures { result ≡ (refusal_answer self).status }
@@ -44,7 +61,9 @@ impl Refusal {
             Refusal::Usage => 2,
             Refusal::Shelf(_) => 3,
             Refusal::NoMemory => 5,
-            Refusal::Program => 6,
+            Refusal::ProgramLonger => 6,
+            Refusal::Syntax { .. } => 6,
+            Refusal::NotServed => 6,
             Refusal::Log => 7,
             Refusal::Chunks => 7,
             Refusal::ScriptLonger => 8,
@@ -62,12 +81,39 @@ impl Refusal {
             Refusal::Shelf(Which::Log) => line_of("error 3 shelf log\n"),
             Refusal::Shelf(Which::Script) => line_of("error 3 shelf script\n"),
             Refusal::NoMemory => line_of("error 5 memory\n"),
-            Refusal::Program => line_of("error 6 notyet\n"),
+            Refusal::ProgramLonger => line_of("error 6 longer\n"),
+            Refusal::Syntax { offset, code } => syntax_line(offset, code),
+            Refusal::NotServed => line_of("error 6 notyet\n"),
             Refusal::Log => line_of("error 7 notyet\n"),
             Refusal::Chunks => line_of("error 7 0 Chunks\n"),
             Refusal::ScriptLonger => line_of("error 8 longer\n"),
             Refusal::ScriptLine(line) => script_line(line),
         }
+    }
+}
+
+fn syntax_line(offset: u64, code: Code) -> ErrorLine
+    ensures { result.bytes ≡ codes "error 6 syntax " ++ (decimal offset ++ (codes " " ++ (code_name code ++ codes "\n"))) }
+{
+    let mut digits = Buffer::new();
+    let mut text = line_of("error 6 syntax ");
+    push(&mut text, digits.format(offset));
+    push(&mut text, " ");
+    push(&mut text, code_name(code));
+    push(&mut text, "\n");
+    text
+}
+
+fn code_name(code: Code) -> &'static str
+    ensures value { result.now ≡ code_name code }
+    ensures length { length result.now ≤ 10 }
+{
+    match code {
+        Code::BadToken => "BadToken",
+        Code::Unexpected => "Unexpected",
+        Code::End => "End",
+        Code::Long => "Long",
+        Code::Many => "Many",
     }
 }
 

@@ -1,5 +1,6 @@
 use Rattle.sb_run.specs.Totals.{rows_of}
-use Rattle.sb_run.proofs.Endings.{done_ends}
+use Rattle.sb_run.specs.Answer.{batch}
+use Rattle.sb_run.proofs.Endings.{done_ends, refuses}
 use Rattle.sb_run.proofs.Faults.{batch_fault}
 use Rattle.sb_run.proofs.top.write_report.Goals as goal
 
@@ -12,3 +13,8 @@ pub returns-clause-shelf : goal.returns-clause-shelf
 returns-clause-shelf g c =
     batch_fault (g.H.Shelf.faults c.args.shelf.now) (g.H.Shelf.faults c.gather.new.shelf) (g.K.Sink.written c.args.sink.now) (g.K.Sink.written c.put_refusal-in-Err.new.sink) c.put_refusal-in-Err.result
     c.args.program.now c.args.log.now c.in-Err.refusal c.in-Err.ensures.cause c.put_refusal-in-Err.ensures.ends
+
+pub returns-clause-refusals : goal.returns-clause-refusals
+returns-clause-refusals g c =
+    refuses (batch c.args.program.now c.args.log.now) (g.H.Shelf.faults c.args.shelf.now) (g.H.Shelf.faults c.gather.new.shelf) (g.K.Sink.written c.args.sink.now) (g.K.Sink.written c.put_refusal-in-Err.new.sink)
+    c.put_refusal-in-Err.result c.in-Err.refusal c.in-Err.ensures.cause c.put_refusal-in-Err.ensures.ends
