@@ -1,5 +1,5 @@
 -- A text has at most one first wrong token, and a text of a program has none.
-use Rattle.std.proofs.Common.{◌≡◌, ◌≤◌, ◌⊎◌, inl, inr, ℕ, ◌+◌, List, [], ◌∷◌, ◌++◌, length, Result, Ok, refl, ap, sym, subst, ◌∙◌}
+use Rattle.std.proofs.Common.{◌≡◌, ◌≤◌, ◌⊎◌, inl, inr, ℕ, ◌+◌, List, [], ◌∷◌, ◌++◌, length, Ok, refl, ap, sym, subst, ◌∙◌}
 use Rattle.std.proofs.Common.{append_assoc, append-nil, length-append, arith}
 use Rattle.std.specs.List.{AllByRecursion}
 use Rattle.std.proofs.lemmas.List.{append_cancel_left, append_cancel_right}
@@ -12,11 +12,8 @@ use Rattle.sb_grammar.specs.declared.programs.Statement.{Statement}
 use Rattle.sb_grammar.specs.Grammar.{Rule, Tree, batch, statement}
 use Rattle.sb_grammar.specs.Program.{joined, StatementsAre, IsProgram, IsShort, IsWhole, tokens_at, IsTextIn, begun, Begins, BeginNone, IsFault, FaultIn}
 use Rattle.sb_grammar.proofs.Whole.{all_alone}
-use Rattle.sb_grammar.proofs.Unique.{fits}
+use Rattle.sb_grammar.proofs.Unique.{fits, both}
 use Rattle.sb_grammar.proofs.Fronts.{Front, cut_at, SameNext, same_next, rule_of, reads_on}
-
-both : {A E : Type 0} (r : Result A E) (x y : A) → r ≡ Ok x → r ≡ Ok y → x ≡ y
-both r x y h k = cc
 
 -- ---- where statements end
 

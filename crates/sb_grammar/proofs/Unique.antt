@@ -22,10 +22,11 @@ statement_of ts = run Statement ts (statement ∷ []) (λ f. f.0)
 abbrev pub batch_of : List Token → Result (Tree batch × List Token × Unit {0}) (Stop × List Token × Unit {0})
 batch_of ts = run (Tree batch) ts (batch ∷ []) (λ f. f.0)
 
-both : {A E : Type 0} (r : Result A E) (x y : A) → r ≡ Ok x → r ≡ Ok y → x ≡ y
+-- what a reading gives is one thing
+pub both : {A E : Type 0} (r : Result A E) (x y : A) → r ≡ Ok x → r ≡ Ok y → x ≡ y
 both r x y h k = cc
 
-neither : {A E C : Type 0} (r : Result A E) (x : A) (e : E) → r ≡ Ok x → r ≡ Err e → C
+pub neither : {A E C : Type 0} (r : Result A E) (x : A) (e : E) → r ≡ Ok x → r ≡ Err e → C
 neither r x e h k = cc
 
 pub one_list : (as' bs : List Statement) (tss uss : List (List Token)) → StatementsAre as' tss → StatementsAre bs uss → joined tss ≡ joined uss

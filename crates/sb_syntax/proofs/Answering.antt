@@ -1,5 +1,5 @@
 -- What `program` answers is what the grammar says of the text.
-use Rattle.std.proofs.Common.{◌≡◌, ◌≤◌, ℕ, suc, List, [], ◌∷◌, ◌++◌, length, Option, Some, None, Result, Ok, Err, refl, ap, sym, subst, ◌∙◌}
+use Rattle.std.proofs.Common.{◌≡◌, ◌≤◌, ℕ, suc, List, [], ◌∷◌, ◌++◌, length, Option, Some, None, Ok, Err, refl, ap, sym, subst, ◌∙◌}
 use Rattle.std.proofs.Common.{append_assoc, append-nil, arith}
 use Rattle.std.proofs.lemmas.List.{append_cancel_right}
 use Rattle.sb_tokens.specs.Token.{Token}
@@ -16,7 +16,7 @@ use Rattle.sb_grammar.proofs.Sound.{All}
 use Rattle.sb_grammar.proofs.Whole.{run, all_alone}
 use Rattle.sb_grammar.proofs.Place as place
 use Rattle.sb_grammar.proofs.Frames.{frame}
-use Rattle.sb_grammar.proofs.Unique.{batch_of, program_of}
+use Rattle.sb_grammar.proofs.Unique.{both, neither, batch_of, program_of}
 use Rattle.sb_syntax.specs.declared.fault.Fault.{Fault}
 use Rattle.sb_syntax.specs.declared.fault.Fault.TheVariants.{NoMemory, Deep, Ended, Misfit, Spent}
 use Rattle.sb_syntax.specs.Reading.{Input, Budget, Outcome, spend}
@@ -25,12 +25,6 @@ use Rattle.sb_syntax.specs.Programs.{Ends, code_at, code_of, start_of, statement
 use Rattle.sb_syntax.proofs.FollowStatements.{follows_batch}
 use Rattle.sb_syntax.proofs.Says.{Took, Place, Says, SaysOf, says, no_room, spends}
 use Rattle.sb_syntax.proofs.Texts.{toks, toks-append, toks-length, Done, Stopped, SaysWhy, SayAll, AreNone, BeginNone, Here, statements_say}
-
-neither : {A E C : Type 0} (r : Result A E) (x : A) (e : E) → r ≡ Ok x → r ≡ Err e → C
-neither r x e h k = cc
-
-both : {A E : Type 0} (r : Result A E) (x y : A) → r ≡ Ok x → r ≡ Ok y → x ≡ y
-both r x y h k = cc
 
 abbrev SameNext : List (ℕ × Token) → List Token → Type 0
 SameNext = place.SameNext (ℕ × Token) (λ p. p.1) Budget spend (Tree batch)

@@ -1,5 +1,5 @@
 -- A program's tokens, within the limits, are read as it, unless memory fails.
-use Rattle.std.proofs.Common.{◌≡◌, ◌≤◌, ℕ, zero, suc, Bool, true, false, if◌then◌else◌, List, [], ◌∷◌, ◌++◌, length, None, Result, Ok, Err}
+use Rattle.std.proofs.Common.{◌≡◌, ◌≤◌, ℕ, zero, suc, Bool, true, false, if◌then◌else◌, List, [], ◌∷◌, ◌++◌, length, None, Ok, Err}
 use Rattle.std.proofs.Common.{refl, ap, sym, subst, ◌∙◌, append_assoc, append-nil, arith}
 use Rattle.std.specs.List.{AllByRecursion}
 use Rattle.std.proofs.lemmas.List.{append_cancel_left}
@@ -13,7 +13,7 @@ use Rattle.sb_grammar.proofs.Machine.{ended, misfit}
 use Rattle.sb_grammar.proofs.Levels.{Fits, level}
 use Rattle.sb_grammar.proofs.Whole.{all_alone}
 use Rattle.sb_grammar.proofs.Place as place
-use Rattle.sb_grammar.proofs.Unique.{fits, program_of}
+use Rattle.sb_grammar.proofs.Unique.{fits, both, neither, program_of}
 use Rattle.sb_grammar.proofs.Fronts.{Front, SameNext, same_next, rule_of, reads_on}
 use Rattle.sb_syntax.specs.declared.fault.Fault.{Fault}
 use Rattle.sb_syntax.specs.declared.fault.Fault.TheVariants.{NoMemory, Deep, Ended, Misfit, Spent}
@@ -24,12 +24,6 @@ use Rattle.sb_syntax.proofs.FollowStatements.{follows_statement, follows_batch}
 use Rattle.sb_syntax.proofs.Says.{Says, SaysOf, says, no_room, spends}
 use Rattle.sb_syntax.proofs.Gives.{one_step}
 use Rattle.sb_syntax.proofs.Texts.{toks, toks-append, toks-length, begins_of, opens}
-
-neither : {A E C : Type 0} (r : Result A E) (x : A) (e : E) → r ≡ Ok x → r ≡ Err e → C
-neither r x e h k = cc
-
-both : {A E : Type 0} (r : Result A E) (x y : A) → r ≡ Ok x → r ≡ Ok y → x ≡ y
-both r x y h k = cc
 
 clash : {A : Type 0} (b : Bool) → b ≡ true → b ≡ false → A
 clash b h k = cc

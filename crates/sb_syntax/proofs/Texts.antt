@@ -1,6 +1,6 @@
 -- Statements up to the first fault.
 use Rattle.std.proofs.Common.{◌≡◌, ◌≢◌, ◌+◌, ◌≤◌, ℕ, zero, suc, Bool, true, false, if◌then◌else◌, List, [], ◌∷◌, ◌++◌, length, Option, Some, None}
-use Rattle.std.proofs.Common.{Result, Ok, Err, refl, ap, sym, subst, ◌∙◌, append_assoc, append-nil, arith}
+use Rattle.std.proofs.Common.{Ok, Err, refl, ap, sym, subst, ◌∙◌, append_assoc, append-nil, arith}
 use Rattle.std.specs.List.{AllByRecursion}
 use Rattle.std.proofs.lemmas.List.{append_cancel_right, map-append, length-map}
 use Rattle.sb_tokens.specs.declared.keyword.Keyword.TheVariants as k
@@ -18,7 +18,7 @@ use Rattle.sb_grammar.proofs.Sound.{All, IsStep, is_step}
 use Rattle.sb_grammar.proofs.Whole.{run, all_alone}
 use Rattle.sb_grammar.proofs.Place as place
 use Rattle.sb_grammar.proofs.Frames.{frame}
-use Rattle.sb_grammar.proofs.Unique.{fits, statement_of}
+use Rattle.sb_grammar.proofs.Unique.{both, neither, fits, statement_of}
 use Rattle.sb_syntax.specs.declared.fault.Fault.{Fault}
 use Rattle.sb_syntax.specs.declared.fault.Fault.TheVariants.{NoMemory, Deep, Ended, Misfit, Spent}
 use Rattle.sb_syntax.specs.Reading.{Input, Budget, Outcome, spend, ahead, refusal}
@@ -60,12 +60,6 @@ opens a ts us d = opens_any d
 
 clash : {A : Type 0} (b : Bool) → b ≡ true → b ≡ false → A
 clash b h k = cc
-
-neither : {A E C : Type 0} (r : Result A E) (x : A) (e : E) → r ≡ Ok x → r ≡ Err e → C
-neither r x e h k = cc
-
-both : {A E : Type 0} (r : Result A E) (x y : A) → r ≡ Ok x → r ≡ Ok y → x ≡ y
-both r x y h k = cc
 
 pub none_empty : {C : Type 0} (x : Token) (xs ts us : List Token) → [] ≡ xs ++ x ∷ ts → C
 none_empty x [] ts us h = cc
