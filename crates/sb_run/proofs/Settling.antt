@@ -1,14 +1,14 @@
 -- What a run without workers writes is settled.
-use Rattle.std.proofs.Common.{◌≡◌, ℕ, ◌+◌, ◌-◌, ◌<◌, ◌≤◌, Bool, true, false, List, [], ◌∷◌, ◌++◌, refl, sym, arith}
+use Rattle.std.proofs.Common.{◌≡◌, ◌≤◌, Bool, true, false, List, [], ◌∷◌, ◌++◌, refl, sym, arith}
 use Rattle.std.proofs.lemmas.Bool.Decides.{nat_tests}
-use Rattle.std.specs.Prelude.{◌||◌, nat_lt, min}
+use Rattle.std.specs.Prelude.{◌||◌}
 use Rattle.sb_report.specs.declared.script.Ask.{Ask}
 use Rattle.sb_report.specs.declared.script.Ask.TheVariants as ask
 use Rattle.sb_report.specs.declared.line.TranscriptLine.{TranscriptLine}
 use Rattle.sb_run.specs.Run.{Run, chunks_of}
 use Rattle.sb_run.specs.ScriptOutput.{Progress, start, after, answer_line, script_lines, run_text}
 use Rattle.sb_run.specs.Settled.{SettlesRead, SettlesWork, is_short, SettleAll, IsSettled}
-use Rattle.sb_run.proofs.Transcripts.{IsBehind, behind_start, behind_next, script_is_transcript}
+use Rattle.sb_run.proofs.Transcripts.{IsBehind, behind_start, behind_next, all_answer}
 
 reads_settled : (run : Run) (lines : List TranscriptLine) (at : Progress) (a : Ask) → IsBehind run lines at → at.floor ≡ 0 → SettlesRead lines (answer_line run at a)
 reads_settled run lines at (ask.Read store key) h floor = (sym h.last, floor)
@@ -50,6 +50,6 @@ all_settled run none_left lines at (a ∷ asks) h floor all = (
 
 pub script_is_settled : (run : Run) (asks : List Ask) → IsSettled run asks (run_text run asks)
 script_is_settled run asks = record {
-  transcript = script_is_transcript run asks;
+  transcript = record { lines = script_lines run start asks; answer = all_answer run [] start asks (behind_start run); text = refl };
   settled = all_settled run false [] start asks (behind_start run) refl (λ e. cc);
 }

@@ -167,7 +167,7 @@ answers run lines at (ask.Work most) h = record {
 }
 answers run lines at (ask.Publish upto) h = ap (λ n. max n (min upto (batches_of run))) (sym h.last)
 
-all_answer : (run : Run) (lines : List TranscriptLine) (at : Progress) (asks : List Ask) → IsBehind run lines at → AnswerAll run lines asks (script_lines run at asks)
+pub all_answer : (run : Run) (lines : List TranscriptLine) (at : Progress) (asks : List Ask) → IsBehind run lines at → AnswerAll run lines asks (script_lines run at asks)
 all_answer run lines at [] h = tt
 all_answer run lines at (a ∷ asks) h = (answers run lines at a h, all_answer run (lines ++ answer_line run at a ∷ []) (after run at a) asks (behind_next run lines at a h))
 
