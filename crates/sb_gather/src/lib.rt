@@ -6,6 +6,7 @@ mod map;
 mod merging;
 mod pair;
 mod place;
+mod ranking;
 mod set;
 mod top;
 
