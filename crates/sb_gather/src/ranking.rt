@@ -56,33 +56,6 @@ fn pass_all<O: Ordered>(
     while pass_one(order, passed, left, entry) {}
 }
 
-// Merges an entry that isn't before any that has passed: it passes next, if it is one of the first, and the last falls out
-// where there are `places` already.
-fn merge_one<O: Ordered>(
-    order: &O,
-    places: usize,
-    passed: &mut Vec<O::Entry>,
-    left: &mut VecDeque<O::Entry>,
-    entry: O::Entry,
-) -> Option<(usize, Option<O::Entry>)>
-    requires few { length (passed.old.items ++ left.old.items) ≤ places }
-    requires room { min places (length (passed.old.items ++ left.old.items) + 1) ≤ vec_capacity passed.old }
-    requires passed { IsNotBefore (O.order order.now) entry passed.old.items }
-    ensures list { passed.new.items ++ left.new.items ≡ take places (placed (O.order order.now) entry (passed.old.items ++ left.old.items)) }
-    ensures undone { MatchOption result (passed.new.items ++ left.new.items ≡ passed.old.items ++ left.old.items) (λ step. TopStepBack step (passed.new.items ++ left.new.items) (passed.old.items ++ left.old.items)) }
-    ensures passed { IsNotBefore (O.order order.now) entry passed.new.items }
-    ensures capacity { vec_capacity passed.new ≡ vec_capacity passed.old }
-{
-    pass_all(order, passed, left, &entry);
-    let at = passed.len();
-    if at >= places {
-        return None;
-    }
-    let out = last_of_full(places - at, left);
-    passed.push_reserved(entry);
-    Some((at, out))
-}
-
 // The last of `places` or more, taken out.
 fn last_of_full<T: Drop>(places: usize, list: &mut VecDeque<T>) -> Option<T>
     requires places { 0 < places }
@@ -96,7 +69,8 @@ fn last_of_full<T: Drop>(places: usize, list: &mut VecDeque<T>) -> Option<T>
     list.pop_back()
 }
 
-// Merges an entry, and notes the step.
+// Merges an entry that isn't before any that has passed: it passes next, if it is one of the first, and the last falls out
+// where there are `places` already. The step is noted.
 fn merge_next<O: Ordered>(
     order: &O,
     places: usize,
@@ -115,9 +89,14 @@ fn merge_next<O: Ordered>(
     ensures capacity { vec_capacity passed.new ≡ vec_capacity passed.old }
     ensures noted { (vec_capacity steps.new ≡ vec_capacity steps.old) × (length steps.new.items ≤ length steps.old.items + 1) }
 {
-    if let Some(step) = merge_one(order, places, passed, left, entry) {
-        steps.push_reserved(step);
+    pass_all(order, passed, left, &entry);
+    let at = passed.len();
+    if at >= places {
+        return;
     }
+    let out = last_of_full(places - at, left);
+    passed.push_reserved(entry);
+    steps.push_reserved((at, out));
 }
 
 // Merges the entries of `more`, and notes the steps.
