@@ -1,4 +1,5 @@
 pub mod Cut
+pub mod Ranks
 pub mod Rings
 pub mod Search
 pub mod Undoing

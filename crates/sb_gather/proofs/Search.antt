@@ -66,7 +66,7 @@ module _ {X : Type 0} (R : X → X → Ordering) (o : IsTotalOrder R) where
   ] refl
 
   -- x is before y, and z isn't before y: x is before z
-  below : (x y z : X) → R x y ≡ Less → R z y ≢ Less → R x z ≡ Less
+  pub below : (x y z : X) → R x y ≡ Less → R z y ≢ Less → R x z ≡ Less
   below x y z p q = elim (R z y) as (λ r. R z y ≡ r → R x z ≡ Less) [
     | Less ↦ λ e. absurd (q e)
     | Equal ↦ λ e. greater_back R o z x (o.congr z y x e ∙ less_back R o x y p)

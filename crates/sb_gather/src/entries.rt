@@ -139,8 +139,8 @@ pub fn add_entries<D: Joining>(
     Ok(steps)
 }
 
-// From this many entries on, one merge of both lists is cheaper than a search and a move for each.
-const MANY: usize = 8;
+/// From this many entries on, one merge of both lists is cheaper than a search and a move for each.
+pub const MANY: usize = 8;
 
 // Adds the entries of `more`, by the cheaper way, and says how to take them back.
 fn add_recorded<D: Joining>(

@@ -6,15 +6,16 @@ mod map;
 mod merging;
 mod pair;
 mod place;
+mod ranking;
 mod set;
 mod top;
 
 pub use entries::{
-    Joining, Steps, add_entries, add_entry, plus_items, plus_items_recorded, take_back,
+    Joining, MANY, Steps, add_entries, add_entry, plus_items, plus_items_recorded, take_back,
     take_items_back,
 };
 pub use map::{Entries, MapM};
-pub use merging::merge_entries;
+pub use merging::{merge_entries, pass_before};
 pub use pair::{Both, PairM};
 pub use place::{Ordered, place_of};
 pub use set::{Keys, SetM};

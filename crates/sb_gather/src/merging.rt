@@ -41,8 +41,9 @@ fn count_before<O: Ordered>(
     (left, false)
 }
 
-// Lets those pass that are before the entry; says whether the next ties with it.
-fn pass_before<O: Ordered>(
+/// Lets those pass that are before the entry; says whether the next ties with it. The first `left` of the ring are left to
+/// pass, and those behind have passed.
+pub fn pass_before<O: Ordered>(
     order: &O,
     ring: &mut VecDeque<O::Entry>,
     left: &mut usize,

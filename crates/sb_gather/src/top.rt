@@ -4,8 +4,9 @@ ghost use Rattle.std.specs.Vec.{vec_len, vec_capacity};
 ghost use Rattle.sb_gather.specs.Steps.{TopStepBack, StepsBack};
 ghost use Rattle.sb_gather.specs.Tops.{by_rank, placed, first_of_both, IsTop};
 
-use crate::entries::Steps;
+use crate::entries::{MANY, Steps};
 use crate::place::{Ordered, place_of};
+use crate::ranking::merge_ranked;
 use sb_laws::{Commuting, Items, Key, Monoid, NoMemory, Semigroup, Undo};
 use std::alloc::Global;
 use std::cmp::Ordering;
@@ -184,19 +185,39 @@ fn put_all<K: Key>(
     Ok(steps)
 }
 
-// Puts each entry in its place. A single one takes no memory but its own room.
+// Puts the first of both into the list, by the cheaper way, and says how to take that back.
+fn put_recorded<K: Key>(
+    top: &TopM<K>,
+    alloc: Global,
+    list: &mut Vec<(i64, K)>,
+    more: Vec<(i64, K)>,
+) -> Result<Steps<(i64, K)>, NoMemory>
+    requires left { IsTop (by_rank K.cmp) top.now list.old.items }
+    requires right { IsTop (by_rank K.cmp) top.now more.items }
+    ensures ok { OnOk result (list.new.items ≡ first_of_both (by_rank K.cmp) top.now list.old.items more.items) }
+    ensures undone { IfOk result (λ steps. StepsBack TopStepBack steps.items list.new.items list.old.items) }
+    ensures err { OnErr result (list.new.items ≡ list.old.items) }
+{
+    if more.len() < MANY {
+        return put_all(top, alloc, list, more);
+    }
+    merge_ranked(top, top.places(), alloc, list, more)
+}
+
+// Puts the first of both into the list. A single entry takes no memory but its own room.
 fn put_list<K: Key>(
     top: &TopM<K>,
     alloc: Global,
     list: &mut Vec<(i64, K)>,
     more: Vec<(i64, K)>,
 ) -> Result<(), NoMemory>
-    requires { IsTop (by_rank K.cmp) top.now list.old.items }
+    requires left { IsTop (by_rank K.cmp) top.now list.old.items }
+    requires right { IsTop (by_rank K.cmp) top.now more.items }
     ensures ok { OnOk result (list.new.items ≡ first_of_both (by_rank K.cmp) top.now list.old.items more.items) }
     ensures err { OnErr result (list.new.items ≡ list.old.items) }
 {
     if more.len() > 1 {
-        let _ = put_all(top, alloc, list, more)?;
+        let _ = put_recorded(top, alloc, list, more)?;
         return Ok(());
     }
     let mut more = more;
@@ -212,13 +233,14 @@ fn put_items_recorded<K: Key>(
     a: &mut Scored<K>,
     b: Scored<K>,
 ) -> Result<Steps<(i64, K)>, NoMemory>
-    requires { IsTop (by_rank K.cmp) top.now a.old }
+    requires left { IsTop (by_rank K.cmp) top.now a.old }
+    requires right { IsTop (by_rank K.cmp) top.now b }
     ensures ok { OnOk result (a.new ≡ first_of_both (by_rank K.cmp) top.now a.old b) }
     ensures undone { IfOk result (λ steps. StepsBack TopStepBack steps.items a.new a.old) }
     ensures err { OnErr result (a.new ≡ a.old) }
 {
     let mut list = a.take();
-    let done = put_all(top, alloc, &mut list, b.into_vec());
+    let done = put_recorded(top, alloc, &mut list, b.into_vec());
     *a = Items::from_vec(list);
     done
 }

@@ -1,10 +1,11 @@
 -- Additions taken back.
-use Rattle.std.proofs.Common.{◌≡◌, ◌∙◌, ℕ, ℤ, List, [], ◌∷◌, length, arith, refl, ap, ap₂, sym, subst}
+use Rattle.std.proofs.Common.{◌≡◌, ◌∙◌, ℕ, ℤ, List, [], ◌∷◌, ◌++◌, length, arith, refl, ap, ap₂, sym, subst}
 use Rattle.std.specs.Prelude.{Option}
 use Rattle.sb_types.specs.declared.values.Val.{Val}
 use Rattle.sb_gather.specs.EntryLaws.{JoinLaws}
 use Rattle.sb_gather.specs.Maps.{by_key, values_added, maps_added, map_laws, ValueBack}
 use Rattle.sb_gather.specs.Steps.{StepBack, StepsBack, TopStepBack}
+use Rattle.sb_gather.proofs.Undoing.{step_noted}
 use Rattle.sb_kind.specs.Elements.{val_cmp, scored_in, entries_in, IsOf, plus}
 use Rattle.sb_kind.specs.KindLaws.{keeps, associates, entries-Map}
 use Rattle.sb_kind.specs.Monoids.{Monoid}
@@ -78,3 +79,8 @@ map_added kind part given a b now list more later is got sum l m made =
 -- how the entries of a map are joined
 pub entry_laws : (m : Monoid) → JoinLaws (by_key val_cmp) (λ (entry : Val × Agg). IsOf m entry.1) (values_added {K = Val} (plus m))
 entry_laws m = map_laws val_cmp (IsOf m) (plus m) (record { keeps_valid = keeps m; associates = associates m })
+
+-- a step that was done and noted
+pub noted : {X U : Type 0} (T : U → X → X → Type 0) (steps all : List (ℕ × Option U)) (step : ℕ × Option U) (later between first : List X) → all ≡ steps ++ step ∷ [] → StepBack T step later between
+    → StepsBack (StepBack T) steps between first → StepsBack (StepBack T) all later first
+noted T steps all step later between first e s h = subst (λ l. StepsBack (StepBack T) l later first) (sym e) (step_noted (StepBack T) steps step later between first s h)

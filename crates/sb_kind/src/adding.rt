@@ -1,7 +1,8 @@
-ghost use Rattle.std.specs.Prelude.{◌≡◌, List, IfOk, OnOk, OnErr};
+ghost use Rattle.std.specs.Prelude.{◌≡◌, ◌≤◌, [], List, length, drop, IfOk, OnOk, OnErr};
 ghost use Rattle.std.specs.List.{AllByRecursion};
 ghost use Rattle.sb_gather.specs.Entries.{AreEntries, entry_added, entries_added};
 ghost use Rattle.sb_gather.specs.Maps.{by_key, values_added, ValueBack};
+ghost use Rattle.sb_gather.specs.Merges.{turned, IsAfter, IsNotBefore};
 ghost use Rattle.sb_gather.specs.Steps.{StepBack, StepsBack};
 ghost use Rattle.sb_kind.specs.Elements.{IsOf, plus, val_cmp};
 ghost use Rattle.sb_kind.specs.KindView.{monoid_of};
@@ -21,12 +22,13 @@ use crate::parts::{
 use crate::undoing::{take_back, undo};
 use crate::undone::Undone;
 use crate::values::{ByKey, ValueSets};
-use sb_gather::{TopM, place_of, plus_items_recorded};
+use sb_gather::{MANY, TopM, pass_before, place_of, plus_items_recorded};
 use sb_laws::{Items, NoMemory, Undo};
 use sb_sketch::{CmsM, HllM};
 use sb_text::Text;
 use sb_types::Val;
 use std::alloc::Global;
+use std::collections::VecDeque;
 
 // Puts the sum into the place of the left element, and keeps that.
 fn put_kept(a: &mut Agg, sum: Agg) -> Undone
@@ -135,7 +137,7 @@ pub fn add(kind: &Kind, alloc: Global, a: &mut Agg, b: Agg) -> Result<Undone, No
         Kind::Pair(..) => add_pair(kind, alloc, a, b),
         Kind::Map(part) => {
             let mut list = into_entries(alloc, take(a));
-            let done = add_entries(part.get(), alloc, &mut list, into_entries(alloc, b));
+            let done = add_all(part.get(), alloc, &mut list, into_entries(alloc, b));
             put(a, Agg::Map(Many::from_vec(list)));
             Ok(Undone::Map(Many::from_vec(done?)))
         }
@@ -203,6 +205,26 @@ fn add_both(
             Err(refused)
         }
     }
+}
+
+// Adds the entries of `more` by the cheaper way, and keeps the steps. A refusal leaves the list as it was.
+#[cycle(add)]
+fn add_all(
+    part: &Kind,
+    alloc: Global,
+    list: &mut Vec<(Val, Agg)>,
+    more: Vec<(Val, Agg)>,
+) -> Result<Vec<(usize, Option<Undone>)>, NoMemory>
+    requires list { AreEntries (by_key val_cmp) (λ entry. IsOf (monoid_of part.now) entry.1) list.old.items }
+    requires more { AreEntries (by_key val_cmp) (λ entry. IsOf (monoid_of part.now) entry.1) more.items }
+    ensures ok { OnOk result (list.new.items ≡ entries_added (by_key val_cmp) (values_added (plus (monoid_of part.now))) list.old.items more.items) }
+    ensures undone { IfOk result (λ steps. StepsBack (StepBack (ValueBack (TakesBack (monoid_of part.now)))) steps.items list.new.items list.old.items) }
+    ensures err { OnErr result (list.new.items ≡ list.old.items) }
+{
+    if more.len() < MANY {
+        return add_entries(part, alloc, list, more);
+    }
+    merge_entries(part, alloc, list, more)
 }
 
 // Adds the entries of `more`, each in its place, and keeps the steps. A refusal leaves the list as it was.
@@ -274,4 +296,88 @@ fn add_entry(
             Ok((at, None))
         }
     }
+}
+
+// Adds the entries of `more` by one merge of the two lists, and keeps the steps. A refusal leaves the list as it was.
+#[cycle(add)]
+fn merge_entries(
+    part: &Kind,
+    alloc: Global,
+    list: &mut Vec<(Val, Agg)>,
+    more: Vec<(Val, Agg)>,
+) -> Result<Vec<(usize, Option<Undone>)>, NoMemory>
+    requires list { AreEntries (by_key val_cmp) (λ entry. IsOf (monoid_of part.now) entry.1) list.old.items }
+    requires more { AreEntries (by_key val_cmp) (λ entry. IsOf (monoid_of part.now) entry.1) more.items }
+    ensures ok { OnOk result (list.new.items ≡ entries_added (by_key val_cmp) (values_added (plus (monoid_of part.now))) list.old.items more.items) }
+    ensures undone { IfOk result (λ steps. StepsBack (StepBack (ValueBack (TakesBack (monoid_of part.now)))) steps.items list.new.items list.old.items) }
+    ensures err { OnErr result (list.new.items ≡ list.old.items) }
+{
+    let mut steps = Vec::with_capacity(alloc, more.len())?;
+    list.reserve(more.len())?;
+    let mut ring = VecDeque::from_vec(std::mem::replace(list, Vec::new(alloc)));
+    let mut left = ring.len();
+    let done = merge_all(part, alloc, &mut ring, &mut left, &mut steps, more);
+    ring.rotate_left(left);
+    *list = ring.into_vec();
+    if let Err(refused) = done {
+        take_back(part, alloc, list, steps);
+        return Err(refused);
+    }
+    Ok(steps)
+}
+
+// Merges entry after entry, and notes the steps. At a refusal the ring is as the steps noted have left it.
+#[cycle(add)]
+fn merge_all(
+    part: &Kind,
+    alloc: Global,
+    ring: &mut VecDeque<(Val, Agg)>,
+    left: &mut usize,
+    steps: &mut Vec<(usize, Option<Undone>)>,
+    more: Vec<(Val, Agg)>,
+) -> Result<(), NoMemory>
+    requires list { AreEntries (by_key val_cmp) (λ entry. IsOf (monoid_of part.now) entry.1) (turned left.old ring.old.items) }
+    requires more { AreEntries (by_key val_cmp) (λ entry. IsOf (monoid_of part.now) entry.1) more.items }
+    requires within { left.old ≤ length ring.old.items }
+    requires nothing { drop left.old ring.old.items ≡ [] }
+    ensures ok { OnOk result (turned left.new ring.new.items ≡ entries_added (by_key val_cmp) (values_added (plus (monoid_of part.now))) (turned left.old ring.old.items) more.items) }
+    ensures undone { (first : List (Val × Agg)) → StepsBack (StepBack (ValueBack (TakesBack (monoid_of part.now)))) steps.old.items (turned left.old ring.old.items) first → StepsBack (StepBack (ValueBack (TakesBack (monoid_of part.now)))) steps.new.items (turned left.new ring.new.items) first }
+    ensures within { left.new ≤ length ring.new.items }
+{
+    for entry in more {
+        merge_next(part, alloc, ring, left, steps, entry)?;
+    }
+    Ok(())
+}
+
+// Merges one entry, which is after all that has passed, and notes the step. What has passed since isn't after it.
+#[cycle(add)]
+fn merge_next(
+    part: &Kind,
+    alloc: Global,
+    ring: &mut VecDeque<(Val, Agg)>,
+    left: &mut usize,
+    steps: &mut Vec<(usize, Option<Undone>)>,
+    entry: (Val, Agg),
+) -> Result<(), NoMemory>
+    requires list { AllByRecursion (λ entry. IsOf (monoid_of part.now) entry.1) (turned left.old ring.old.items) }
+    requires entry { IsOf (monoid_of part.now) entry.1 }
+    requires within { left.old ≤ length ring.old.items }
+    requires passed { IsAfter (by_key val_cmp) entry (drop left.old ring.old.items) }
+    ensures ok { OnOk result (turned left.new ring.new.items ≡ entry_added (by_key val_cmp) (values_added (plus (monoid_of part.now))) entry (turned left.old ring.old.items)) }
+    ensures undone { (first : List (Val × Agg)) → StepsBack (StepBack (ValueBack (TakesBack (monoid_of part.now)))) steps.old.items (turned left.old ring.old.items) first → StepsBack (StepBack (ValueBack (TakesBack (monoid_of part.now)))) steps.new.items (turned left.new ring.new.items) first }
+    ensures within { left.new ≤ length ring.new.items }
+    ensures passed { OnOk result (IsNotBefore (by_key val_cmp) entry (drop left.new ring.new.items)) }
+{
+    steps.reserve(1)?;
+    let ties = pass_before(&ByKey, ring, left, &entry);
+    let at = ring.len() - *left;
+    if ties {
+        let undone = add(part, alloc, &mut ring[0].1, into_part(entry))?;
+        steps.push_reserved((at, Some(undone)));
+        return Ok(());
+    }
+    ring.push_back(entry)?;
+    steps.push_reserved((at, None));
+    Ok(())
 }

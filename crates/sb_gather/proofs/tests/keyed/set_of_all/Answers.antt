@@ -4,7 +4,7 @@ use Rattle.std.proofs.lemmas.Cmp.{int_cmp_total}
 use Rattle.sb_gather.specs.Entries.{AreEntries}
 use Rattle.sb_gather.specs.EntryLaws.{all_keep}
 use Rattle.sb_gather.specs.Maps.{AnyKey, left_of, set_laws}
-use Rattle.sb_gather.proofs.tests.set_of_all.Goals as goal
+use Rattle.sb_gather.proofs.tests.keyed.set_of_all.Goals as goal
 
 pub loop-key-preserved : goal.loop-key-preserved
 loop-key-preserved c =
