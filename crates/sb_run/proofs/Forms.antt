@@ -135,7 +135,7 @@ made_is_spelled tree p z s fs n k v made minus size all accepted =
     let there = places (program_view p) accepted in
     record {
       served = accepted;
-      spelled = tree_by tree p.length (int_lt p.from (pos 0)) (unsigned_abs p.from)
+      is_tree = tree_by tree p.length (int_lt p.from (pos 0)) (unsigned_abs p.from)
           (source_tree p.source (map field_tree (map field_view p.fields.items)) ∷ store_tree p.store p.source (name_at p.key (map field_view p.fields.items)) (name_at p.value (map field_view p.fields.items)) ∷ [])
           (sym made.head.0) (minus ∙ ap (λ from. int_lt from (pos 0)) (sym made.head.1)) (size ∙ ap unsigned_abs (sym made.head.1))
           (all ∙ statements_by s n k v p.source p.store (name_at p.key (map field_view p.fields.items)) (name_at p.value (map field_view p.fields.items)) fs (map field_tree (map field_view p.fields.items))
@@ -166,6 +166,6 @@ made_is_only tree p z s fs n k v q made is_from are_parts accepts =
     let parts = taken given (parts_of q) are_parts in
     let same = same_fields (map field_view p.fields.items) q.fields (made.fields ∙ ap (λ t. t.1.0) parts) in
     program_by q p.length p.from p.source p.store (map field_view p.fields.items) p.key p.value
-    (made.head.0 ∙ ap (λ t. t.length) accepts.spelled) (made.head.1 ∙ taken z q.from is_from) (made.names.0 ∙ ap (λ t. t.0) parts) same (made.names.1 ∙ ap (λ t. t.1.1.0) parts)
+    (made.head.0 ∙ ap (λ t. t.length) accepts.is_tree) (made.head.1 ∙ taken z q.from is_from) (made.names.0 ∙ ap (λ t. t.0) parts) same (made.names.1 ∙ ap (λ t. t.1.1.0) parts)
     (made.places.0 ∙ place_by k p.fields.items q.fields q.key same (ap (λ t. t.1.1.1.0) parts) there.distinct there.key)
     (made.places.1 ∙ place_by v p.fields.items q.fields q.value same (ap (λ t. t.1.1.1.1) parts) there.distinct there.value)

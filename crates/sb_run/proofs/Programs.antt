@@ -21,18 +21,12 @@ use Rattle.sb_run.specs.declared.program.Program.{Program}
 use Rattle.sb_run.specs.declared.refusal.Refusal.{Refusal}
 use Rattle.sb_run.specs.declared.refusal.Refusal.TheVariants as refused
 
--- what is due with a tree, from the programs that it is of
+-- what is due with the tree of a program of the form
 pub served_is_due : (tree : Tree) (program' : Program) → Accepts tree (program_view program') → ((other : program.Program) → Accepts tree other → program_view program' ≡ other)
     → ReadsTree tree (Ok program')
 served_is_due tree program' is only = λ task log due is_due. elim is_due [
   | inl none ↦ absurd (none.0 (program_view program') is)
   | inr some ↦ subst (λ p. FileDue (codes "log") log (LogDue task p) due) (sym (only some.0 some.1)) some.2
-]
-
-pub none_is_due : (tree : Tree) → ((other : program.Program) → ¬ (Accepts tree other)) → ReadsTree tree (Err refused.NotServed)
-none_is_due tree none = λ task log due is_due. elim is_due [
-  | inl other ↦ other.1
-  | inr some ↦ absurd (none some.0 some.1)
 ]
 
 -- what `parse` answers where a text has a first wrong token
@@ -41,8 +35,7 @@ AnswersFault text parsed = (offset : ℕ) (why : Code) → FirstFault text offse
 
 -- what is due with a text that `parse` gives a tree of
 pub tree_is_due : (text : List ℕ) (tree : Tree) (result : Result Program Refusal)
-    → AnswersFault text (Ok tree)
-    → ((other : Tree) → IsTextOf other text → tree ≡ other) → ReadsTree tree result → ReadsText text result
+    → AnswersFault text (Ok tree) → ((other : Tree) → IsTextOf other text → tree ≡ other) → ReadsTree tree result → ReadsText text result
 tree_is_due text tree (Ok program) fault only reads = λ task log due is_due. elim is_due [
   | inl wrong ↦ elim (fault wrong.0 wrong.1 wrong.2) [ inl other ↦ cc | inr memory ↦ cc ]
   | inr some ↦ reads task log due (subst (λ t. TreeDue task log t due) (sym (only some.0 some.1)) some.2)

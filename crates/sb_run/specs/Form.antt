@@ -145,4 +145,4 @@ tree_of program = record {
 -- the tree is that of this program, which has the form
 pub record Accepts (tree : Tree) (program : Program) : Type 0 where
   pub served : is_accepted program ≡ true
-  pub spelled : tree ≡ tree_of program
+  pub is_tree : tree ≡ tree_of program

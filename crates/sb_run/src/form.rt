@@ -13,7 +13,8 @@ use sb_text::{NoMemory, Text};
 use sb_tokens::Keyword;
 use std::alloc::Global;
 
-const LENGTH_LIMIT: u64 = 9_223_372_036_854_775_807;
+// The greatest i64.
+const GREATEST: u64 = 9_223_372_036_854_775_807;
 
 /// The program of the served form that a tree is of; `None` exactly where there is none.
 pub fn program_of(alloc: Global, tree: &Tree) -> Result<Option<Program>, NoMemory>
@@ -39,7 +40,7 @@ fn start_of(minus: bool, from: u64) -> Option<i64>
     ensures some { IfSome result (λ start. (minus ≡ int_lt start (pos 0)) × (from ≡ unsigned_abs start)) }
     ensures every { (start : ℤ) → is_start start ≡ true → minus ≡ int_lt start (pos 0) → from ≡ unsigned_abs start → result ≡ Some start }
 {
-    if from > LENGTH_LIMIT || (minus && from == 0) {
+    if from > GREATEST || (minus && from == 0) {
         return None;
     }
     let start = from as i64;
@@ -128,7 +129,7 @@ fn are_batches(program: &Program) -> bool
 fn is_batch_length(length: u64) -> bool
     ensures { result ≡ is_batch_length length }
 {
-    0 < length && length <= LENGTH_LIMIT
+    0 < length && length <= GREATEST
 }
 
 fn is_start(from: i64) -> bool

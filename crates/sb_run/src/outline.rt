@@ -108,12 +108,12 @@ fn pair_of(expr: &Expr) -> Option<(&Text, &Text)>
     if !post.steps.is_empty() {
         return None;
     }
-    Some((field_of(key.get())?, field_of(value.get())?))
+    Some((name_of(key.get())?, name_of(value.get())?))
 }
 
 // The name in it.NAME.
 #[tactic(auto, unfolding(crate::specs::Form::it_field))]
-fn field_of(expr: &Expr) -> Option<&Text>
+fn name_of(expr: &Expr) -> Option<&Text>
     ensures some { IfSome result (λ name. expr.now ≡ it_field name.now) }
     ensures every { (name : List ℕ) → expr.now ≡ it_field name → option_copied result ≡ Some name }
 {
@@ -127,7 +127,8 @@ fn field_of(expr: &Expr) -> Option<&Text>
     Some(name)
 }
 
-// The atom and its steps that are the whole expression. Below, part by part, what stands alone in it.
+// The atom and its steps that are the whole expression. Each part that stands alone is looked for in a function of its
+// own, so that its contract says one layer.
 #[tactic(auto, unfolding(crate::specs::Form::alone))]
 fn only_post(expr: &Expr) -> Option<&Post>
     ensures some { IfSome result (λ post. expr.now ≡ alone post.now) }

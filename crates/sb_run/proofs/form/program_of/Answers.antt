@@ -20,9 +20,9 @@ returns-then-is_accepted-clause-every c = λ other accepts.
     let made = c.in_ok-program.ensures in
     made_is_only c.args.tree.now c.in_ok-program.program c.in-Some.from o.source.now o.fields.now o.store.now o.key.now o.value.now other
     (record { head = (made.head.0, made.head.1 ∙ to_z-of_z fits); names = made.names; fields = made.fields; places = made.places })
-    (c.in-Some.ensures.every other.from (starts c.args.tree.now other accepts) (ap (λ t. t.minus) accepts.spelled) (ap (λ t. t.from) accepts.spelled))
+    (c.in-Some.ensures.every other.from (starts c.args.tree.now other accepts) (ap (λ t. t.minus) accepts.is_tree) (ap (λ t. t.from) accepts.is_tree))
     (c.in-Some-outline_of.ensures.every other.source (map field_tree other.fields) other.store (name_at other.key other.fields) (name_at other.value other.fields)
-    (c.as_slice.ensures ∙ ap (λ t. t.statements) accepts.spelled)) accepts
+    (c.as_slice.ensures ∙ ap (λ t. t.statements) accepts.is_tree)) accepts
 
 pub returns-else-is_accepted-clause-every : goal.returns-else-is_accepted-clause-every
 returns-else-is_accepted-clause-every c = λ other accepts.
@@ -31,9 +31,9 @@ returns-else-is_accepted-clause-every c = λ other accepts.
     let made = c.in_ok-program.ensures in
     let same = made_is_only c.args.tree.now c.in_ok-program.program c.in-Some.from o.source.now o.fields.now o.store.now o.key.now o.value.now other
     (record { head = (made.head.0, made.head.1 ∙ to_z-of_z fits); names = made.names; fields = made.fields; places = made.places })
-    (c.in-Some.ensures.every other.from (starts c.args.tree.now other accepts) (ap (λ t. t.minus) accepts.spelled) (ap (λ t. t.from) accepts.spelled))
+    (c.in-Some.ensures.every other.from (starts c.args.tree.now other accepts) (ap (λ t. t.minus) accepts.is_tree) (ap (λ t. t.from) accepts.is_tree))
     (c.in-Some-outline_of.ensures.every other.source (map field_tree other.fields) other.store (name_at other.key other.fields) (name_at other.value other.fields)
-    (c.as_slice.ensures ∙ ap (λ t. t.statements) accepts.spelled)) accepts in
+    (c.as_slice.ensures ∙ ap (λ t. t.statements) accepts.is_tree)) accepts in
     let accepted : is_accepted (program_view c.in_ok-program.program) ≡ true = ap is_accepted same ∙ accepts.served in
     let not_accepted = c.if-is_accepted.false in
     let tested = c.is_accepted.ensures in
