@@ -45,8 +45,8 @@ fn truth_in(bytes: &[u8]) -> Option<bool>
     None
 }
 
-// The text of a part without parts, and what follows it.
-fn split_leaf(bytes: &[u8]) -> (&[u8], &[u8])
+/// The text of a part without parts, up to the end or one of `,`, `)`, `]`, `}` and `=`, and what follows it.
+pub fn split_leaf(bytes: &[u8]) -> (&[u8], &[u8])
     ensures leaf { result.0.now ≡ leaf bytes.now }
     ensures rest { result.1.now ≡ after_leaf bytes.now }
 {

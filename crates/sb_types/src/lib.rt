@@ -16,6 +16,7 @@ pub use copying::copy;
 pub use laws::{
     keys_are_values, keys_have_own_texts, order_by_cases, order_is_total, views_are_exact,
 };
+pub use leaves::{expect, split_leaf};
 pub use order::compare;
 pub use reading::{read, read_front, read_key};
 pub use types::{Field, Fields, Mono, Ty};

@@ -42,6 +42,7 @@ pub fn read_front<'a>(
     ty: &Ty,
     bytes: &'a [u8],
 ) -> Result<Option<(Val, &'a [u8])>, NoMemory>
+    ensures value { IfOk result (λ read. option_map front_of read ≡ value_front (type_of ty.now) bytes.now) }
     ensures spelled { IfOk result (λ read. IfSome read (λ r. IsValueOf (type_of ty.now) (value_of r.0) × (bytes.now ≡ value_text (value_of r.0) ++ r.1.now))) }
     ensures every { IfOk result (λ read. (v : Value) (rest : List ℕ) → IsValueOf (type_of ty.now) v → IsEnd rest → bytes.now ≡ value_text v ++ rest → option_map front_of read ≡ Some (record { value = v; rest = rest })) }
 {
