@@ -1,7 +1,11 @@
-pub mod KeyReads
+pub mod Inner
+pub mod Keys
 pub mod Lists
 pub mod OrderCases
 pub mod OrderEqual
+pub mod ReadAgain
+pub mod ReadSpelled
+pub mod ReadSteps
 pub mod TyViews
 pub mod ValBack
 pub mod ValTexts

@@ -1,9 +1,10 @@
 pub mod Key
-pub mod KeyRead
 pub mod Order
 pub mod OrderLaws
+pub mod Read
 pub mod Text
 pub mod TyView
+pub mod Typed
 pub mod ValView
 pub mod Value
 pub mod ValueType

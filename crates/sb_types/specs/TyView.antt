@@ -1,7 +1,8 @@
 -- The type that a `Ty` stands for.
-use Rattle.std.specs.Prelude.{ℕ, List}
-use Rattle.sb_types.specs.ValueType.{ValueType, ints, texts, truths, pairs, options, lists, records, fields_of}
+use Rattle.std.specs.Prelude.{ℕ, List, map}
+use Rattle.sb_types.specs.ValueType.{ValueType, ints, texts, truths, pairs, options, lists, records, Fields, fields_of}
 use Rattle.sb_types.specs.declared.types.Ty.{Ty}
+use Rattle.sb_types.specs.declared.types.Field.{Field}
 use Rattle.sb_types.specs.declared.types.Ty.TheOpen as layer
 use Rattle.sb_types.specs.declared.types.Ty.TheOpen.{Ty-F, Field-F}
 use Rattle.sb_types.specs.declared.types.Ty.TheFolds.{fold-Ty}
@@ -21,3 +22,7 @@ field_layer f = (f.name, f.ty)
 
 abbrev pub type_of : Ty → ValueType
 type_of = fold-Ty ValueType (List ℕ × ValueType) type_layer field_layer
+
+-- the fields of a record type
+abbrev pub view_fields : List Field → Fields
+view_fields fields = fields_of (map (λ f. (f.name, type_of f.ty)) fields)

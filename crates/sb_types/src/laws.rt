@@ -1,12 +1,13 @@
 // Laws of the definitions, each on a function that does nothing.
-ghost use Rattle.std.specs.Prelude.{◌≡◌, ◌≢◌, ◌↔◌, ℕ, ℤ, Bool, List};
+ghost use Rattle.std.specs.Prelude.{◌≡◌, ◌≢◌, ◌↔◌, ℕ, ℤ, Bool, true, List};
 ghost use Rattle.std.specs.declared.cmp.Ordering.TheVariants.{Equal, Less};
 ghost use Rattle.std.specs.Ordering.{nat_cmp, int_cmp, bool_cmp, ordering_then};
 ghost use Rattle.std.specs.Cmp.Lexicographic.{slice_cmp};
 ghost use Rattle.std.specs.Cmp.{IsTotalOrder};
 ghost use Rattle.sb_types.specs.Order.{value_cmp, values_cmp, variant_of};
-ghost use Rattle.sb_types.specs.Key.{IsKeyOf};
+ghost use Rattle.sb_types.specs.Key.{IsKeyOf, is_key};
 ghost use Rattle.sb_types.specs.Text.{value_text};
+ghost use Rattle.sb_types.specs.Typed.{IsValueOf};
 ghost use Rattle.sb_types.specs.Value.{Value, Values, int, text, truth, pair, none, some, list, rec, end, more};
 ghost use Rattle.sb_types.specs.ValueType.{ValueType};
 ghost use Rattle.sb_types.specs.ValView.{value_of, val_of};
@@ -36,6 +37,11 @@ pub fn order_by_cases()
 /// No two keys of one key type have one text.
 pub fn keys_have_own_texts()
     ensures { (t : ValueType) (v w : Value) → IsKeyOf t v → IsKeyOf t w → value_text v ≡ value_text w → v ≡ w }
+{}
+
+/// The keys of a type are its values in which there is no list and no record.
+pub fn keys_are_values()
+    ensures { (t : ValueType) (v : Value) → IsKeyOf t v ↔ (IsValueOf t v × (is_key v ≡ true)) }
 {}
 
 /// A `Val` and the value that contracts see are one thing.

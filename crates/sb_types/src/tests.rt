@@ -1,5 +1,5 @@
 // Values, their texts with the nearest neighbours that are none, and their order.
-use crate::{Ty, Val, Vals, compare, copy, read_key, text};
+use crate::{Field, Ty, Val, Vals, compare, copy, read, read_front, read_key, text};
 use sb_text::{NoMemory, Text};
 use sqlite_items::{Boxed, Items};
 use std::alloc::Global;
@@ -247,5 +247,110 @@ fn keys_of_parts(rt: HostRuntime) -> Result<(), Fail> {
         &Ty::Rec(Items::new(alloc)),
         ["{}", ""].as_slice(),
     )?;
+    Ok(())
+}
+
+// Each text is read as a value, and printed again as it stands.
+fn are_values(rt: &impl Abort, alloc: Global, ty: &Ty, texts: &[&str]) -> Result<(), NoMemory> {
+    for bytes in texts {
+        let mut out = Vec::new(alloc);
+        match read(alloc, ty, bytes.as_bytes())? {
+            Some(value) => text(alloc, &value, &mut out)?,
+            None => rt.abort(),
+        }
+        assert_eq!(rt; out.as_slice(), bytes.as_bytes());
+    }
+    Ok(())
+}
+
+fn are_no_values(rt: &impl Abort, alloc: Global, ty: &Ty, texts: &[&str]) -> Result<(), NoMemory> {
+    for bytes in texts {
+        assert_eq!(rt; read(alloc, ty, bytes.as_bytes())?.is_none(), true);
+    }
+    Ok(())
+}
+
+fn list_of(alloc: Global, of: Ty, most: u64) -> Result<Ty, NoMemory> {
+    Ok(Ty::List {
+        of: Boxed::new(alloc, of)?,
+        most,
+    })
+}
+
+fn field(rt: &impl Abort, alloc: Global, name: &str, ty: Ty) -> Result<Field, NoMemory> {
+    match Text::from_bytes(Vec::from_slice(alloc, name.as_bytes())?) {
+        Some(name) => Ok(Field { name, ty }),
+        None => rt.abort(),
+    }
+}
+
+#[test]
+fn lists_are_read(rt: HostRuntime) -> Result<(), Fail> {
+    let alloc = rt.alloc();
+    let lists = list_of(alloc, list_of(alloc, Ty::Text, 2)?, 3)?;
+    are_values(
+        &rt,
+        alloc,
+        &lists,
+        ["[]", "[[]]", "[[],[a],[a%2C,%]]"].as_slice(),
+    )?;
+    are_no_values(
+        &rt,
+        alloc,
+        &lists,
+        [
+            "",
+            "[",
+            "[,]",
+            "[[],]",
+            "[[]",
+            "[[a,b,c]]",
+            "[[],[],[],[]]",
+            "[[]]]",
+            "[[] ]",
+            "[a]",
+            "{}",
+        ]
+        .as_slice(),
+    )?;
+    Ok(())
+}
+
+#[test]
+fn records_are_read(rt: HostRuntime) -> Result<(), Fail> {
+    let alloc = rt.alloc();
+    let mut fields = Vec::new(alloc);
+    fields.push(field(&rt, alloc, "n", Ty::Int)?)?;
+    fields.push(field(&rt, alloc, "t", option_of(alloc, Ty::Text)?)?)?;
+    let record = Ty::Rec(Items::from_vec(fields));
+    are_values(&rt, alloc, &record, ["{1,~}", "{-2,+a%7D}"].as_slice())?;
+    are_no_values(
+        &rt,
+        alloc,
+        &record,
+        [
+            "", "{}", "{1}", "{1,~", "{1,~,~}", "{1,~}}", "{~,1}", "[1,~]", "1,~", "{1,+a}}",
+            "{1,+}",
+        ]
+        .as_slice(),
+    )?;
+    are_no_keys(&rt, alloc, &record, ["{1,~}"].as_slice())?;
+    let empty = Ty::Rec(Items::new(alloc));
+    are_values(&rt, alloc, &empty, ["{}"].as_slice())?;
+    are_no_values(&rt, alloc, &empty, ["", "{", "{1}", "{,}", "[]"].as_slice())?;
+    Ok(())
+}
+
+#[test]
+fn a_value_in_front_of_more(rt: HostRuntime) -> Result<(), Fail> {
+    let alloc = rt.alloc();
+    let list = list_of(alloc, Ty::Int, 2)?;
+    match read_front(alloc, &list, b"[1,2]=[3]".as_slice())? {
+        Some((value, rest)) => {
+            expect_value(&rt, alloc, &value, "[1,2]")?;
+            assert_eq!(rt; rest, b"=[3]".as_slice());
+        }
+        None => rt.abort(),
+    }
     Ok(())
 }

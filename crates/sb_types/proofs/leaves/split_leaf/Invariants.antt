@@ -1,6 +1,6 @@
 use Rattle.std.proofs.Common.{◌≡◌, ◌++◌, drop, take}
-use Rattle.sb_types.specs.KeyRead.{leaf, after_leaf}
-use Rattle.sb_types.proofs.reading.split_leaf.Given as goal
+use Rattle.sb_types.specs.Read.{leaf, after_leaf}
+use Rattle.sb_types.proofs.leaves.split_leaf.Given as goal
 
 abbrev pub invariant-loop-at : goal.invariant-loop-at
 invariant-loop-at l = record {
