@@ -46,7 +46,8 @@ impl<K: Key> TopM<K> {
         })
     }
 
-    fn places(&self) -> usize
+    /// The number k.
+    pub fn places(&self) -> usize
         ensures { result ≡ self.now }
     {
         self.places as usize

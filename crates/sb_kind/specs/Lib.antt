@@ -5,4 +5,6 @@ pub mod KindLaws
 pub mod KindView
 pub mod Monoids
 pub mod Prepared
+pub mod Read
+pub mod Typed
 pub mod Undoing

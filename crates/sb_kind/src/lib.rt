@@ -6,10 +6,14 @@ mod agg;
 mod boxed;
 mod copying;
 mod dictionary;
+mod fronts;
 mod kind;
+mod lists;
 mod many;
 mod parts;
 mod prepared;
+mod reading;
+mod sorted;
 mod undoing;
 mod undone;
 mod values;
@@ -22,6 +26,7 @@ pub use dictionary::{KindM, OnlineM};
 pub use kind::{Kind, commutes};
 pub use many::Many;
 pub use prepared::prepare;
+pub use reading::read;
 pub use writing::text;
 
 #[cfg(test)]

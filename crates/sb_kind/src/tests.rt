@@ -4,6 +4,8 @@ ghost use Rattle.sb_kind.specs.Elements.{IsOf};
 ghost use Rattle.sb_kind.specs.KindView.{monoid_of};
 ghost use Rattle.sb_kind.specs.Monoids.{IsWithin};
 
+mod reading;
+
 use super::{Agg, Kind, KindM, OnlineM, commutes, prepare, text};
 use sb_laws::{Commuting, NoMemory, Semigroup, regroup};
 use sb_text::Text;
@@ -84,6 +86,40 @@ fn sum_of(alloc: Global, m: &KindM, a: Val, b: Val) -> Result<Agg, NoMemory>
     added(alloc, m, left, right)
 }
 
+// The sum of what three words give, added on a copy.
+fn of_three(alloc: Global, m: &KindM, a: Agg, b: Agg, c: Agg) -> Result<Agg, NoMemory>
+    requires first { IsOf (monoid_of m.now.kind) a }
+    requires second { IsOf (monoid_of m.now.kind) b }
+    requires third { IsOf (monoid_of m.now.kind) c }
+{
+    let mut sum = m.copy(alloc, &a)?;
+    m.plus(alloc, &mut sum, b)?;
+    m.plus(alloc, &mut sum, c)?;
+    Ok(sum)
+}
+
+fn three_words(alloc: Global, m: &KindM, words: [&[u8]; 3]) -> Result<Agg, NoMemory>
+    requires { IsWithin (monoid_of m.now.kind) }
+{
+    let [a, b, c] = words;
+    let a = prepare(alloc, &m.kind, word(alloc, a)?)?;
+    let b = prepare(alloc, &m.kind, word(alloc, b)?)?;
+    let c = prepare(alloc, &m.kind, word(alloc, c)?)?;
+    of_three(alloc, m, a, b, c)
+}
+
+// The text of the sum of what three words give.
+fn printed_words(alloc: Global, mono: &Mono, words: [&[u8]; 3]) -> Result<Vec<u8>, NoMemory> {
+    match kind_of(alloc, mono)? {
+        Some(kind) => {
+            let m = KindM::new(kind);
+            let sum = three_words(alloc, &m, words)?;
+            text_of(alloc, &m, &sum)
+        }
+        None => Ok(Vec::new(alloc)),
+    }
+}
+
 fn text_of(alloc: Global, m: &KindM, a: &Agg) -> Result<Vec<u8>, NoMemory> {
     let mut out = Vec::new(alloc);
     text(alloc, &m.kind, a, &mut out)?;
@@ -116,12 +152,6 @@ fn both(alloc: Global, left: Val, right: Val) -> Result<Val, NoMemory> {
 
 fn ints(alloc: Global, mono: &Mono, a: i64, b: i64) -> Result<Vec<u8>, NoMemory> {
     printed(alloc, mono, Val::Int(a), Val::Int(b))
-}
-
-fn words(alloc: Global, mono: &Mono, a: &[u8], b: &[u8]) -> Result<Vec<u8>, NoMemory> {
-    let left = word(alloc, a)?;
-    let right = word(alloc, b)?;
-    printed(alloc, mono, left, right)
 }
 
 fn scored(alloc: Global, score: i64, item: &[u8]) -> Result<Val, NoMemory> {
@@ -196,9 +226,9 @@ fn texts_of_tops_and_sketches(rt: HostRuntime) -> Result<(), Fail> {
     assert_eq!(rt; top.as_slice(), b"[(5,a%20b),(5,b)]".as_slice());
     let top = scores(alloc, &Mono::Top(1), (4, b"a"), (5, b"b"))?;
     assert_eq!(rt; top.as_slice(), b"[(5,b)]".as_slice());
-    let cms = words(alloc, &Mono::Cms(2, 1), b"abc", b"")?;
-    assert_eq!(rt; cms.as_slice(), b"[2,2]".as_slice());
-    let hll = words(alloc, &Mono::Hll(4), b"abc", b"")?;
+    let cms = printed_words(alloc, &Mono::Cms(2, 1), [b"abc", b"", b"abc"])?;
+    assert_eq!(rt; cms.as_slice(), b"[3,3]".as_slice());
+    let hll = printed_words(alloc, &Mono::Hll(4), [b"abc", b"", b"abc"])?;
     assert_eq!(rt;
         hll.as_slice(),
         b"00000000000000000000000100000300".as_slice()

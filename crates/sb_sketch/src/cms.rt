@@ -48,6 +48,13 @@ impl CmsM {
             width: w as u16,
         })
     }
+
+    /// The number of cells, of all rows.
+    pub fn cells(&self) -> usize
+        ensures { result ≡ self.now.rows * self.now.width }
+    {
+        usize::from(self.rows) * usize::from(self.width)
+    }
 }
 
 impl CmsM {

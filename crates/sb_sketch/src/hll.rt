@@ -41,6 +41,14 @@ impl HllM {
         Some(HllM { bits: b as u8 })
     }
 
+    /// The number b.
+    pub fn bits(&self) -> u8
+        ensures number { result ≡ self.now }
+        ensures within { (4 ≤ result) × (result ≤ 12) }
+    {
+        self.bits
+    }
+
     // Raises the item's register.
     fn raise(&self, registers: &mut Vec<u8>, item: &[u8])
         requires { AreRegisters self.now registers.old.items }

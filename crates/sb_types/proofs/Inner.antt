@@ -18,7 +18,7 @@ inner_append : (xs ys : List ℕ) → IsInner xs → IsInner ys → IsInner (xs 
 inner_append [] ys inner also = also
 inner_append (x ∷ xs) ys inner also = (inner.0, inner_append xs ys inner.1 also)
 
-inner_decimal : (n : ℕ) → n < 2 ^ 64 → IsInner (decimal n)
+pub inner_decimal : (n : ℕ) → n < 2 ^ 64 → IsInner (decimal n)
 inner_decimal n small =
     decimal_by_steps (λ k digits. IsInner digits)
     (λ k digit. (grind (arith, nat_tests), tt))

@@ -17,7 +17,7 @@ use Rattle.sb_types.specs.Value.{Value, Values, int, text, truth, pair, list, en
 use Rattle.sb_types.specs.ValueType.{ValueType, ints, texts, truths, pairs, options, lists, records, Fields, no_field, field}
 use Rattle.sb_types.proofs.Inner.{inner_signed, inner_escaped, leaf-end, after_leaf-end, leaf-front, after_leaf-front}
 
-text_again : (t : List ℕ) → IsUtf8 t → text_unescaped (escaped t) ≡ Some t
+pub text_again : (t : List ℕ) → IsUtf8 t → text_unescaped (escaped t) ≡ Some t
 text_again t is = rw (unescaped-escaped t (utf8_bytes t is), is_utf8-from_IsUtf8 t is) refl
 
 abbrev pub front : Value → List ℕ → Option Front

@@ -25,19 +25,19 @@ use Rattle.sb_types.proofs.ReadAgain.{pair_parts}
 abbrev pub IsFront : ValueType → List ℕ → Front → Type 0
 IsFront t bytes f = IsValueOf t f.value × (bytes ≡ value_text f.value ++ f.rest)
 
-and_then_if : {X Y : Type 0} (o : Option X) (f : X → Option Y) (P : X → Type 0) (Q : Y → Type 0) → IfSome o P → ((x : X) → P x → IfSome (f x) Q) → IfSome (option_and_then f o) Q
+pub and_then_if : {X Y : Type 0} (o : Option X) (f : X → Option Y) (P : X → Type 0) (Q : Y → Type 0) → IfSome o P → ((x : X) → P x → IfSome (f x) Q) → IfSome (option_and_then f o) Q
 and_then_if None f P Q is next = tt
 and_then_if (Some x) f P Q is next = next x is
 
-map_if : {X Y : Type 0} (o : Option X) (f : X → Y) (P : X → Type 0) (Q : Y → Type 0) → IfSome o P → ((x : X) → P x → Q (f x)) → IfSome (option_map f o) Q
+pub map_if : {X Y : Type 0} (o : Option X) (f : X → Y) (P : X → Type 0) (Q : Y → Type 0) → IfSome o P → ((x : X) → P x → Q (f x)) → IfSome (option_map f o) Q
 map_if None f P Q is next = tt
 map_if (Some x) f P Q is next = next x is
 
-map_or : {X Y : Type 0} (o : Option X) (f : X → Y) (d : Y) (P : X → Type 0) (Q : Y → Type 0) → IfSome o P → ((x : X) → P x → Q (f x)) → Q d → Q (option_map_or f o d)
+pub map_or : {X Y : Type 0} (o : Option X) (f : X → Y) (d : Y) (P : X → Type 0) (Q : Y → Type 0) → IfSome o P → ((x : X) → P x → Q (f x)) → Q d → Q (option_map_or f o d)
 map_or None f d P Q is next other = other
 map_or (Some x) f d P Q is next other = next x is
 
-expect-spelled : (c : ℕ) (bytes : List ℕ) → IfSome (expect c bytes) (λ rest. bytes ≡ c ∷ rest)
+pub expect-spelled : (c : ℕ) (bytes : List ℕ) → IfSome (expect c bytes) (λ rest. bytes ≡ c ∷ rest)
 expect-spelled c [] = tt
 expect-spelled c (b ∷ bytes) =
     elim (eqb b c) as (λ a. eqb b c ≡ a → IfSome (cond a (Some bytes) None) (λ rest. b ∷ bytes ≡ c ∷ rest)) [
