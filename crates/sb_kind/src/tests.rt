@@ -69,9 +69,11 @@ fn kind_of(alloc: Global, mono: &Mono) -> Result<Option<Kind>, NoMemory>
 }
 
 // The sum of two elements, added on a copy.
+#[tactic(auto, using(crate::specs::KindLaws::keeps))]
 fn added(alloc: Global, m: &KindM, left: Agg, right: Agg) -> Result<Agg, NoMemory>
     requires left { IsOf (monoid_of m.now.kind) left }
     requires right { IsOf (monoid_of m.now.kind) right }
+    ensures { IfOk result (IsOf (monoid_of m.now.kind)) }
 {
     let mut sum = m.copy(alloc, &left)?;
     m.plus(alloc, &mut sum, right)?;
@@ -86,34 +88,38 @@ fn sum_of(alloc: Global, m: &KindM, a: Val, b: Val) -> Result<Agg, NoMemory>
     added(alloc, m, left, right)
 }
 
-// The sum of what three words give, added on a copy.
-fn of_three(alloc: Global, m: &KindM, a: Agg, b: Agg, c: Agg) -> Result<Agg, NoMemory>
-    requires first { IsOf (monoid_of m.now.kind) a }
-    requires second { IsOf (monoid_of m.now.kind) b }
-    requires third { IsOf (monoid_of m.now.kind) c }
+// What a word gives.
+fn element_of(alloc: Global, m: &KindM, bytes: &[u8]) -> Result<Agg, NoMemory>
+    requires { IsWithin (monoid_of m.now.kind) }
+    ensures { IfOk result (IsOf (monoid_of m.now.kind)) }
 {
-    let mut sum = m.copy(alloc, &a)?;
-    m.plus(alloc, &mut sum, b)?;
-    m.plus(alloc, &mut sum, c)?;
-    Ok(sum)
+    let value = word(alloc, bytes)?;
+    prepare(alloc, &m.kind, value)
 }
 
-fn three_words(alloc: Global, m: &KindM, words: [&[u8]; 3]) -> Result<Agg, NoMemory>
+// The sum of what three words give.
+fn sum_of_three(alloc: Global, m: &KindM, a: &[u8], b: &[u8], c: &[u8]) -> Result<Agg, NoMemory>
     requires { IsWithin (monoid_of m.now.kind) }
 {
-    let [a, b, c] = words;
-    let a = prepare(alloc, &m.kind, word(alloc, a)?)?;
-    let b = prepare(alloc, &m.kind, word(alloc, b)?)?;
-    let c = prepare(alloc, &m.kind, word(alloc, c)?)?;
-    of_three(alloc, m, a, b, c)
+    let first = element_of(alloc, m, a)?;
+    let second = element_of(alloc, m, b)?;
+    let both = added(alloc, m, first, second)?;
+    let third = element_of(alloc, m, c)?;
+    added(alloc, m, both, third)
 }
 
 // The text of the sum of what three words give.
-fn printed_words(alloc: Global, mono: &Mono, words: [&[u8]; 3]) -> Result<Vec<u8>, NoMemory> {
+fn three_words(
+    alloc: Global,
+    mono: &Mono,
+    a: &[u8],
+    b: &[u8],
+    c: &[u8],
+) -> Result<Vec<u8>, NoMemory> {
     match kind_of(alloc, mono)? {
         Some(kind) => {
             let m = KindM::new(kind);
-            let sum = three_words(alloc, &m, words)?;
+            let sum = sum_of_three(alloc, &m, a, b, c)?;
             text_of(alloc, &m, &sum)
         }
         None => Ok(Vec::new(alloc)),
@@ -226,9 +232,9 @@ fn texts_of_tops_and_sketches(rt: HostRuntime) -> Result<(), Fail> {
     assert_eq!(rt; top.as_slice(), b"[(5,a%20b),(5,b)]".as_slice());
     let top = scores(alloc, &Mono::Top(1), (4, b"a"), (5, b"b"))?;
     assert_eq!(rt; top.as_slice(), b"[(5,b)]".as_slice());
-    let cms = printed_words(alloc, &Mono::Cms(2, 1), [b"abc", b"", b"abc"])?;
+    let cms = three_words(alloc, &Mono::Cms(2, 1), b"abc", b"", b"abc")?;
     assert_eq!(rt; cms.as_slice(), b"[3,3]".as_slice());
-    let hll = printed_words(alloc, &Mono::Hll(4), [b"abc", b"", b"abc"])?;
+    let hll = three_words(alloc, &Mono::Hll(4), b"abc", b"", b"abc")?;
     assert_eq!(rt;
         hll.as_slice(),
         b"00000000000000000000000100000300".as_slice()

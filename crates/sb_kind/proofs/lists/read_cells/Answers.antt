@@ -1,5 +1,5 @@
-use Rattle.std.proofs.Common.{◌≡◌, ◌-◌, length, sym, arith}
-use Rattle.sb_kind.specs.Read.{cell_front, item_at}
+use Rattle.std.proofs.Common.{◌-◌, length, sym, arith}
+use Rattle.sb_kind.specs.Read.{cell_front}
 use Rattle.sb_kind.proofs.ReadLists.{items_step, items_stop}
 use Rattle.sb_kind.proofs.lists.read_cells.Goals as goal
 

@@ -1,6 +1,6 @@
-use Rattle.std.proofs.Common.{◌≡◌, ◌-◌, length, sym, arith}
+use Rattle.std.proofs.Common.{◌-◌, length, sym, arith}
 use Rattle.sb_types.specs.TyView.{type_of}
-use Rattle.sb_kind.specs.Read.{val_front, item_at}
+use Rattle.sb_kind.specs.Read.{val_front}
 use Rattle.sb_kind.proofs.ReadLists.{items_step, items_stop}
 use Rattle.sb_kind.proofs.lists.read_values.Goals as goal
 
