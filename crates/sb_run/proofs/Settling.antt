@@ -45,7 +45,7 @@ all_settled run none_left lines at (a ∷ asks) h floor all = (
   reads_settled run lines at a h floor,
   work_settled run none_left at a all,
   all_settled run (none_left || is_short a (answer_line run at a)) (lines ++ answer_line run at a ∷ []) (after run at a) asks
-  (behind_next run lines at a h) (floor_stays run at a floor) (all_worked run none_left at a h.chunk_limit all),
+      (behind_next run lines at a h) (floor_stays run at a floor) (all_worked run none_left at a h.chunk_limit all),
 )
 
 pub script_is_settled : (run : Run) (asks : List Ask) → IsSettled run asks (run_text run asks)
