@@ -1,4 +1,7 @@
 pub mod Cut
+pub mod Found
+pub mod Members
+pub mod Rankings
 pub mod Ranks
 pub mod Rings
 pub mod Search

@@ -91,7 +91,7 @@ module _ {X : Type 0} (R : X → X → Ordering) (o : IsTotalOrder R) (same : (x
       ∙ (ap (λ l. z ∷ l) (turn_less x y zs p) ∙ (sym (placed_after R y z (placed R x zs) yz) ∙ sym (ap (placed R y) (placed_after R x z zs xz)))))))
 
   -- two entries may be placed in either order
-  placed_turn : (x y : X) (zs : List X) → placed R x (placed R y zs) ≡ placed R y (placed R x zs)
+  pub placed_turn : (x y : X) (zs : List X) → placed R x (placed R y zs) ≡ placed R y (placed R x zs)
   placed_turn x y zs = elim (R x y) as (λ r. R x y ≡ r → placed R x (placed R y zs) ≡ placed R y (placed R x zs)) [
     | Less ↦ λ e. turn_less x y zs e
     | Equal ↦ λ e. let is = same x y e in ap (λ w. placed R w (placed R y zs)) is ∙ ap (λ w. placed R y (placed R w zs)) (sym is)
@@ -123,7 +123,7 @@ module _ {X : Type 0} (R : X → X → Ordering) (o : IsTotalOrder R) (same : (x
     | Greater ↦ λ e. absurd (h.0.0 (greater_back R o x y e))
   ] refl
 
-  onto_nothing : (xs : List X) → IsRanked R xs → together R [] xs ≡ xs
+  pub onto_nothing : (xs : List X) → IsRanked R xs → together R [] xs ≡ xs
   onto_nothing [] h = refl
   onto_nothing (x ∷ xs) h = through x [] xs ∙ (ap (placed R x) (onto_nothing xs h.1) ∙ sym (first_placed x xs h))
 
@@ -151,7 +151,7 @@ module _ {X : Type 0} (R : X → X → Ordering) (o : IsTotalOrder R) (same : (x
       (λ e. subst (IsRanked R) (sym (placed_before R x y ys e)) ((not_before x y e, none_before_first x y ys e h.0), h))
       (λ e. subst (IsRanked R) (sym (placed_after R x y ys e)) (none_before_placed x y ys e h.0, ranked_placed x ys h.1))
 
-  ranked_together : (xs ys : List X) → IsRanked R xs → IsRanked R (together R xs ys)
+  pub ranked_together : (xs ys : List X) → IsRanked R xs → IsRanked R (together R xs ys)
   ranked_together xs [] h = h
   ranked_together xs (y ∷ ys) h = ranked_together (placed R y xs) ys (ranked_placed y xs h)
 

@@ -1,3 +1,4 @@
+// Lists of entries in rising order, and how sets and maps add to them in place.
 ghost use Rattle.std.specs.Prelude.{◌≡◌, List, IfOk, OnOk, OnErr};
 ghost use Rattle.std.specs.List.{AllByRecursion};
 ghost use Rattle.sb_gather.specs.Entries.{AreEntries, entry_added, entries_added};
@@ -37,8 +38,9 @@ pub trait Joining: Ordered {
         ensures err { OnErr result (a.new ≡ a.old) };
 
     /// Takes a join back. No memory is taken.
-    fn part(&self, a: &mut Self::Entry, undone: Self::Undone)
-        ensures { (earlier : Self.Entry) → takes_back self.now undone a.old earlier → a.new ≡ earlier };
+    fn unjoin(&self, a: &mut Self::Entry, undone: Self::Undone)
+        ensures { (earlier : Self.Entry) → takes_back self.now undone a.old earlier
+            → a.new ≡ earlier };
 
     ghost laws: { (m : Self) → JoinLaws (Self.order m) (valid m) (joined m) };
 }
@@ -56,8 +58,10 @@ pub fn add_entry<D: Joining>(
 ) -> Result<(usize, Option<D::Undone>), NoMemory>
     requires list { AreEntries (D.Ordered.order d.now) (D.valid d.now) list.old.items }
     requires entry { D.valid d.now entry }
-    ensures ok { OnOk result (list.new.items ≡ entry_added (D.Ordered.order d.now) (D.joined d.now) entry list.old.items) }
-    ensures undone { IfOk result (λ step. StepBack (D.takes_back d.now) step list.new.items list.old.items) }
+    ensures ok { OnOk result (list.new.items
+        ≡ entry_added (D.Ordered.order d.now) (D.joined d.now) entry list.old.items) }
+    ensures undone { IfOk result (λ step. StepBack (D.takes_back d.now) step list.new.items
+        list.old.items) }
     ensures err { OnErr result (list.new.items ≡ list.old.items) }
 {
     match place_of(d, list.as_slice(), &entry) {
@@ -82,9 +86,13 @@ fn add_next<D: Joining>(
 ) -> Result<(), NoMemory>
     requires list { AreEntries (D.Ordered.order d.now) (D.valid d.now) list.old.items }
     requires entry { D.valid d.now entry }
-    ensures ok { OnOk result (list.new.items ≡ entry_added (D.Ordered.order d.now) (D.joined d.now) entry list.old.items) }
-    ensures undone { OnOk result ((first : List D.Entry) → StepsBack (StepBack (D.takes_back d.now)) steps.old.items list.old.items first → StepsBack (StepBack (D.takes_back d.now)) steps.new.items list.new.items first) }
-    ensures err { OnErr result ((list.new.items ≡ list.old.items) × (steps.new.items ≡ steps.old.items)) }
+    ensures ok { OnOk result (list.new.items
+        ≡ entry_added (D.Ordered.order d.now) (D.joined d.now) entry list.old.items) }
+    ensures undone { OnOk result ((first : List D.Entry)
+        → StepsBack (StepBack (D.takes_back d.now)) steps.old.items list.old.items first
+        → StepsBack (StepBack (D.takes_back d.now)) steps.new.items list.new.items first) }
+    ensures err { OnErr result ((list.new.items ≡ list.old.items)
+        × (steps.new.items ≡ steps.old.items)) }
 {
     steps.reserve(1)?;
     let step = add_entry(d, alloc, list, entry)?;
@@ -94,7 +102,8 @@ fn add_next<D: Joining>(
 
 // Takes one step back. One that can't have been done here changes nothing.
 fn step_back<D: Joining>(d: &D, list: &mut Vec<D::Entry>, step: (usize, Option<D::Undone>))
-    ensures { (earlier : List D.Entry) → StepBack (D.takes_back d.now) step list.old.items earlier → list.new.items ≡ earlier }
+    ensures { (earlier : List D.Entry) → StepBack (D.takes_back d.now) step list.old.items earlier
+        → list.new.items ≡ earlier }
 {
     let (at, undone) = step;
     if at >= list.len() {
@@ -102,13 +111,14 @@ fn step_back<D: Joining>(d: &D, list: &mut Vec<D::Entry>, step: (usize, Option<D
     }
     match undone {
         None => drop(list.remove(at)),
-        Some(undone) => d.part(&mut list[at], undone),
+        Some(undone) => d.unjoin(&mut list[at], undone),
     }
 }
 
 /// Takes an addition back, from its last step to its first. No memory is taken.
 pub fn take_back<D: Joining>(d: &D, list: &mut Vec<D::Entry>, steps: Steps<D::Undone>)
-    ensures { (earlier : List D.Entry) → StepsBack (StepBack (D.takes_back d.now)) steps.items list.old.items earlier → list.new.items ≡ earlier }
+    ensures { (earlier : List D.Entry) → StepsBack (StepBack (D.takes_back d.now)) steps.items
+        list.old.items earlier → list.new.items ≡ earlier }
 {
     let mut steps = steps;
     while let Some(step) = steps.pop() {
@@ -125,8 +135,10 @@ pub fn add_entries<D: Joining>(
 ) -> Result<Steps<D::Undone>, NoMemory>
     requires list { AreEntries (D.Ordered.order d.now) (D.valid d.now) list.old.items }
     requires more { AllByRecursion (D.valid d.now) more.items }
-    ensures ok { OnOk result (list.new.items ≡ entries_added (D.Ordered.order d.now) (D.joined d.now) list.old.items more.items) }
-    ensures undone { IfOk result (λ steps. StepsBack (StepBack (D.takes_back d.now)) steps.items list.new.items list.old.items) }
+    ensures ok { OnOk result (list.new.items
+        ≡ entries_added (D.Ordered.order d.now) (D.joined d.now) list.old.items more.items) }
+    ensures undone { IfOk result (λ steps. StepsBack (StepBack (D.takes_back d.now)) steps.items
+        list.new.items list.old.items) }
     ensures err { OnErr result (list.new.items ≡ list.old.items) }
 {
     let mut steps = Vec::with_capacity(alloc, more.len())?;
@@ -151,8 +163,10 @@ fn add_recorded<D: Joining>(
 ) -> Result<Steps<D::Undone>, NoMemory>
     requires list { AreEntries (D.Ordered.order d.now) (D.valid d.now) list.old.items }
     requires more { AreEntries (D.Ordered.order d.now) (D.valid d.now) more.items }
-    ensures ok { OnOk result (list.new.items ≡ entries_added (D.Ordered.order d.now) (D.joined d.now) list.old.items more.items) }
-    ensures undone { IfOk result (λ steps. StepsBack (StepBack (D.takes_back d.now)) steps.items list.new.items list.old.items) }
+    ensures ok { OnOk result (list.new.items
+        ≡ entries_added (D.Ordered.order d.now) (D.joined d.now) list.old.items more.items) }
+    ensures undone { IfOk result (λ steps. StepsBack (StepBack (D.takes_back d.now)) steps.items
+        list.new.items list.old.items) }
     ensures err { OnErr result (list.new.items ≡ list.old.items) }
 {
     if more.len() < MANY {
@@ -170,7 +184,8 @@ fn add_all<D: Joining>(
 ) -> Result<(), NoMemory>
     requires list { AreEntries (D.Ordered.order d.now) (D.valid d.now) list.old.items }
     requires more { AreEntries (D.Ordered.order d.now) (D.valid d.now) more.items }
-    ensures ok { OnOk result (list.new.items ≡ entries_added (D.Ordered.order d.now) (D.joined d.now) list.old.items more.items) }
+    ensures ok { OnOk result (list.new.items
+        ≡ entries_added (D.Ordered.order d.now) (D.joined d.now) list.old.items more.items) }
     ensures err { OnErr result (list.new.items ≡ list.old.items) }
 {
     if more.len() > 1 {
@@ -193,7 +208,8 @@ pub fn plus_items<D: Joining>(
 ) -> Result<(), NoMemory>
     requires left { AreEntries (D.Ordered.order d.now) (D.valid d.now) a.old }
     requires right { AreEntries (D.Ordered.order d.now) (D.valid d.now) b }
-    ensures ok { OnOk result (a.new ≡ entries_added (D.Ordered.order d.now) (D.joined d.now) a.old b) }
+    ensures ok { OnOk result (a.new ≡ entries_added (D.Ordered.order d.now) (D.joined d.now) a.old
+        b) }
     ensures err { OnErr result (a.new ≡ a.old) }
 {
     let mut list = a.take();
@@ -211,8 +227,10 @@ pub fn plus_items_recorded<D: Joining>(
 ) -> Result<Steps<D::Undone>, NoMemory>
     requires left { AreEntries (D.Ordered.order d.now) (D.valid d.now) a.old }
     requires right { AreEntries (D.Ordered.order d.now) (D.valid d.now) b }
-    ensures ok { OnOk result (a.new ≡ entries_added (D.Ordered.order d.now) (D.joined d.now) a.old b) }
-    ensures undone { IfOk result (λ steps. StepsBack (StepBack (D.takes_back d.now)) steps.items a.new a.old) }
+    ensures ok { OnOk result (a.new ≡ entries_added (D.Ordered.order d.now) (D.joined d.now) a.old
+        b) }
+    ensures undone { IfOk result (λ steps. StepsBack (StepBack (D.takes_back d.now)) steps.items
+        a.new a.old) }
     ensures err { OnErr result (a.new ≡ a.old) }
 {
     let mut list = a.take();
@@ -223,7 +241,8 @@ pub fn plus_items_recorded<D: Joining>(
 
 /// Takes an addition back. No memory is taken.
 pub fn take_items_back<D: Joining>(d: &D, a: &mut Items<D::Entry>, steps: Steps<D::Undone>)
-    ensures { (earlier : List D.Entry) → StepsBack (StepBack (D.takes_back d.now)) steps.items a.old earlier → a.new ≡ earlier }
+    ensures { (earlier : List D.Entry) → StepsBack (StepBack (D.takes_back d.now)) steps.items a.old
+        earlier → a.new ≡ earlier }
 {
     let mut list = a.take();
     take_back(d, &mut list, steps);

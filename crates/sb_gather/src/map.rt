@@ -1,3 +1,4 @@
+// Maps added key by key.
 ghost use Rattle.std.specs.Prelude.{◌≡◌, Ok, []};
 ghost use Rattle.sb_gather.specs.Entries.{AreEntries};
 ghost use Rattle.sb_gather.specs.Maps.{by_key, values_added, maps_added};
@@ -13,7 +14,9 @@ use std::marker::PhantomData;
 /// A map: a list of keys with their values, each key before the next.
 pub type Entries<K, E> = Items<(K, E)>;
 
-/// Maps added key by key, where a key that both have gets the sum by the part; the zero is the empty map.
+/// Maps added key by key, where a key that both have gets the sum by the part; the zero is the empty map. The part is a
+/// semigroup that can take a plus back (`Undo`), so that no map is copied: a key that is refused leaves the others as
+/// they were.
 #[derive(Drop)]
 pub struct MapM<K: Key, M: Undo + Drop> {
     pub part: M,
@@ -49,7 +52,7 @@ impl<K: Key, M: Undo + Drop> Ordered for MapM<K, M> {
 impl<K: Key, M: Undo + Drop> Joining for MapM<K, M> {
     ghost use Rattle.sb_gather.specs.Maps.{map_laws, part_laws, ValueBack};
 
-    type Undone = M::Record;
+    type Undone = M::Undone;
 
     ghost valid = { λ m entry. M.valid m.part entry.1 };
 
@@ -64,12 +67,12 @@ impl<K: Key, M: Undo + Drop> Joining for MapM<K, M> {
         alloc: Global,
         a: &mut (K, M::El),
         b: (K, M::El),
-    ) -> Result<M::Record, NoMemory> {
+    ) -> Result<M::Undone, NoMemory> {
         let (_, value) = b;
         self.part.plus_recorded(alloc, &mut a.1, value)
     }
 
-    fn part(&self, a: &mut (K, M::El), undone: M::Record) {
+    fn unjoin(&self, a: &mut (K, M::El), undone: M::Undone) {
         self.part.undo(&mut a.1, undone)
     }
 }
@@ -141,7 +144,7 @@ impl<K: Key, M: Undo + Commuting + Drop> Commuting for MapM<K, M> {
 impl<K: Key, M: Undo + Drop> Undo for MapM<K, M> {
     ghost use Rattle.sb_gather.specs.Maps.{ValueBack};
 
-    type Record = Steps<M::Record>;
+    type Undone = Steps<M::Undone>;
 
     ghost takes_back = { λ m steps later earlier. StepsBack (StepBack (ValueBack (M.takes_back m.part))) steps.items later earlier };
 
@@ -150,11 +153,11 @@ impl<K: Key, M: Undo + Drop> Undo for MapM<K, M> {
         alloc: Global,
         a: &mut Entries<K, M::El>,
         b: Entries<K, M::El>,
-    ) -> Result<Steps<M::Record>, NoMemory> {
+    ) -> Result<Steps<M::Undone>, NoMemory> {
         plus_items_recorded(self, alloc, a, b)
     }
 
-    fn undo(&self, a: &mut Entries<K, M::El>, steps: Steps<M::Record>) {
+    fn undo(&self, a: &mut Entries<K, M::El>, steps: Steps<M::Undone>) {
         take_items_back(self, a, steps)
     }
 }

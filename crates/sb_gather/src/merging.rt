@@ -1,3 +1,4 @@
+// Two lists of entries in rising order merged in place.
 ghost use Rattle.std.specs.Prelude.{◌≡◌, ◌<◌, ◌≤◌, [], Some, slice_get, List, length, take, drop, IfOk, OnOk, OnErr};
 ghost use Rattle.std.specs.List.{AllByRecursion};
 ghost use Rattle.sb_gather.specs.Entries.{AreEntries, entry_added, entries_added};
@@ -29,7 +30,8 @@ fn count_before<O: Ordered>(
     requires { left ≤ length ring.now.items }
     ensures within { result.0 ≤ left }
     ensures before { IsAfter (O.order order.now) entry.now (take result.0 ring.now.items) }
-    ensures next { IsNext (O.order order.now) entry.now result.1 (drop result.0 (take left ring.now.items)) }
+    ensures next { IsNext (O.order order.now) entry.now result.1
+        (drop result.0 (take left ring.now.items)) }
 {
     for at in 0..left {
         match order.compare(entry, entry_at(ring, at)) {
@@ -74,11 +76,15 @@ fn merge_one<D: Joining>(
     requires entry { D.valid d.now entry }
     requires within { left.old ≤ length ring.old.items }
     requires passed { IsAfter (D.Ordered.order d.now) entry (drop left.old ring.old.items) }
-    ensures ok { OnOk result (turned left.new ring.new.items ≡ entry_added (D.Ordered.order d.now) (D.joined d.now) entry (turned left.old ring.old.items)) }
-    ensures undone { IfOk result (λ step. StepBack (D.takes_back d.now) step (turned left.new ring.new.items) (turned left.old ring.old.items)) }
+    ensures ok { OnOk result (turned left.new ring.new.items
+        ≡ entry_added (D.Ordered.order d.now) (D.joined d.now) entry
+        (turned left.old ring.old.items)) }
+    ensures undone { IfOk result (λ step. StepBack (D.takes_back d.now) step
+        (turned left.new ring.new.items) (turned left.old ring.old.items)) }
     ensures err { OnErr result (turned left.new ring.new.items ≡ turned left.old ring.old.items) }
     ensures within { left.new ≤ length ring.new.items }
-    ensures passed { OnOk result (IsNotBefore (D.Ordered.order d.now) entry (drop left.new ring.new.items)) }
+    ensures passed { OnOk result (IsNotBefore (D.Ordered.order d.now) entry
+        (drop left.new ring.new.items)) }
 {
     let ties = pass_before(d, ring, left, &entry);
     let at = ring.len() - *left;
@@ -100,8 +106,10 @@ pub fn merge_entries<D: Joining>(
 ) -> Result<Steps<D::Undone>, NoMemory>
     requires list { AreEntries (D.Ordered.order d.now) (D.valid d.now) list.old.items }
     requires more { AreEntries (D.Ordered.order d.now) (D.valid d.now) more.items }
-    ensures ok { OnOk result (list.new.items ≡ entries_added (D.Ordered.order d.now) (D.joined d.now) list.old.items more.items) }
-    ensures undone { IfOk result (λ steps. StepsBack (StepBack (D.takes_back d.now)) steps.items list.new.items list.old.items) }
+    ensures ok { OnOk result (list.new.items
+        ≡ entries_added (D.Ordered.order d.now) (D.joined d.now) list.old.items more.items) }
+    ensures undone { IfOk result (λ steps. StepsBack (StepBack (D.takes_back d.now)) steps.items
+        list.new.items list.old.items) }
     ensures err { OnErr result (list.new.items ≡ list.old.items) }
 {
     let mut steps = Vec::with_capacity(alloc, more.len())?;
@@ -127,12 +135,18 @@ fn merge_all<D: Joining>(
     steps: &mut Steps<D::Undone>,
     more: Vec<D::Entry>,
 ) -> Result<(), NoMemory>
-    requires list { AreEntries (D.Ordered.order d.now) (D.valid d.now) (turned left.old ring.old.items) }
+    requires list { AreEntries (D.Ordered.order d.now) (D.valid d.now)
+        (turned left.old ring.old.items) }
     requires more { AreEntries (D.Ordered.order d.now) (D.valid d.now) more.items }
     requires within { left.old ≤ length ring.old.items }
     requires nothing { drop left.old ring.old.items ≡ [] }
-    ensures ok { OnOk result (turned left.new ring.new.items ≡ entries_added (D.Ordered.order d.now) (D.joined d.now) (turned left.old ring.old.items) more.items) }
-    ensures undone { (first : List D.Entry) → StepsBack (StepBack (D.takes_back d.now)) steps.old.items (turned left.old ring.old.items) first → StepsBack (StepBack (D.takes_back d.now)) steps.new.items (turned left.new ring.new.items) first }
+    ensures ok { OnOk result (turned left.new ring.new.items
+        ≡ entries_added (D.Ordered.order d.now) (D.joined d.now) (turned left.old ring.old.items)
+        more.items) }
+    ensures undone { (first : List D.Entry)
+        → StepsBack (StepBack (D.takes_back d.now)) steps.old.items (turned left.old ring.old.items)
+        first → StepsBack (StepBack (D.takes_back d.now)) steps.new.items
+        (turned left.new ring.new.items) first }
     ensures within { left.new ≤ length ring.new.items }
 {
     for entry in more {
@@ -154,10 +168,16 @@ fn merge_next<D: Joining>(
     requires entry { D.valid d.now entry }
     requires within { left.old ≤ length ring.old.items }
     requires passed { IsAfter (D.Ordered.order d.now) entry (drop left.old ring.old.items) }
-    ensures ok { OnOk result (turned left.new ring.new.items ≡ entry_added (D.Ordered.order d.now) (D.joined d.now) entry (turned left.old ring.old.items)) }
-    ensures undone { (first : List D.Entry) → StepsBack (StepBack (D.takes_back d.now)) steps.old.items (turned left.old ring.old.items) first → StepsBack (StepBack (D.takes_back d.now)) steps.new.items (turned left.new ring.new.items) first }
+    ensures ok { OnOk result (turned left.new ring.new.items
+        ≡ entry_added (D.Ordered.order d.now) (D.joined d.now) entry
+        (turned left.old ring.old.items)) }
+    ensures undone { (first : List D.Entry)
+        → StepsBack (StepBack (D.takes_back d.now)) steps.old.items (turned left.old ring.old.items)
+        first → StepsBack (StepBack (D.takes_back d.now)) steps.new.items
+        (turned left.new ring.new.items) first }
     ensures within { left.new ≤ length ring.new.items }
-    ensures passed { OnOk result (IsNotBefore (D.Ordered.order d.now) entry (drop left.new ring.new.items)) }
+    ensures passed { OnOk result (IsNotBefore (D.Ordered.order d.now) entry
+        (drop left.new ring.new.items)) }
 {
     steps.reserve(1)?;
     let step = merge_one(d, alloc, ring, left, entry)?;

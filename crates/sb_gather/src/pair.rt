@@ -1,3 +1,4 @@
+// Pairs added part by part.
 ghost use Rattle.std.specs.Prelude.{◌≡◌};
 
 use sb_laws::{Commuting, Monoid, NoMemory, Semigroup, Undo};
@@ -10,7 +11,8 @@ pub struct Both<X, Y> {
     pub right: Y,
 }
 
-/// Pairs added part by part; the zero is that of both parts, where both have one.
+/// Pairs added part by part; the zero is that of both parts, where both have one. The left part is a semigroup that can
+/// take a plus back (`Undo`), so that no pair is copied: a right part that is refused leaves the left as it was.
 #[derive(Drop)]
 pub struct PairM<A: Undo + Drop, B: Semigroup + Drop> {
     pub left: A,
@@ -46,9 +48,9 @@ impl<A: Undo + Drop, B: Semigroup + Drop> Semigroup for PairM<A, B> {
         b: Both<A::El, B::El>,
     ) -> Result<(), NoMemory> {
         let Both { left, right } = b;
-        let record = self.left.plus_recorded(alloc, &mut a.left, left)?;
+        let undone = self.left.plus_recorded(alloc, &mut a.left, left)?;
         if let Err(refused) = self.right.plus(alloc, &mut a.right, right) {
-            self.left.undo(&mut a.left, record);
+            self.left.undo(&mut a.left, undone);
             return Err(refused);
         }
         Ok(())
@@ -86,7 +88,7 @@ impl<A: Undo + Commuting + Drop, B: Commuting + Drop> Commuting for PairM<A, B> 
 }
 
 impl<A: Undo + Drop, B: Undo + Drop> Undo for PairM<A, B> {
-    type Record = Both<A::Record, B::Record>;
+    type Undone = Both<A::Undone, B::Undone>;
 
     ghost takes_back = { λ m both later earlier. A.takes_back m.left both.left later.left earlier.left × B.takes_back m.right both.right later.right earlier.right };
 
@@ -95,7 +97,7 @@ impl<A: Undo + Drop, B: Undo + Drop> Undo for PairM<A, B> {
         alloc: Global,
         a: &mut Both<A::El, B::El>,
         b: Both<A::El, B::El>,
-    ) -> Result<Both<A::Record, B::Record>, NoMemory> {
+    ) -> Result<Both<A::Undone, B::Undone>, NoMemory> {
         let Both { left, right } = b;
         let left = self.left.plus_recorded(alloc, &mut a.left, left)?;
         match self.right.plus_recorded(alloc, &mut a.right, right) {
@@ -107,7 +109,7 @@ impl<A: Undo + Drop, B: Undo + Drop> Undo for PairM<A, B> {
         }
     }
 
-    fn undo(&self, a: &mut Both<A::El, B::El>, both: Both<A::Record, B::Record>) {
+    fn undo(&self, a: &mut Both<A::El, B::El>, both: Both<A::Undone, B::Undone>) {
         self.left.undo(&mut a.left, both.left);
         self.right.undo(&mut a.right, both.right);
     }

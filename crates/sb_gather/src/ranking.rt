@@ -61,7 +61,8 @@ fn last_of_full<T: Drop>(places: usize, list: &mut VecDeque<T>) -> Option<T>
     requires places { 0 < places }
     requires few { length list.old.items ≤ places }
     ensures items { list.old.items ≡ list.new.items ++ option_to_list result }
-    ensures out { MatchOption result (length list.new.items < places) (λ _. length list.new.items + 1 ≡ places) }
+    ensures out { MatchOption result (length list.new.items < places)
+        (λ _. length list.new.items + 1 ≡ places) }
 {
     if list.len() < places {
         return None;
@@ -80,14 +81,19 @@ fn merge_next<O: Ordered>(
     entry: O::Entry,
 )
     requires few { length (passed.old.items ++ left.old.items) ≤ places }
-    requires room { min places (length (passed.old.items ++ left.old.items) + 1) ≤ vec_capacity passed.old }
+    requires room { min places (length (passed.old.items ++ left.old.items) + 1)
+        ≤ vec_capacity passed.old }
     requires passed { IsNotBefore (O.order order.now) entry passed.old.items }
     requires noted { length steps.old.items < vec_capacity steps.old }
-    ensures list { passed.new.items ++ left.new.items ≡ take places (placed (O.order order.now) entry (passed.old.items ++ left.old.items)) }
-    ensures undone { (first : List O.Entry) → StepsBack TopStepBack steps.old.items (passed.old.items ++ left.old.items) first → StepsBack TopStepBack steps.new.items (passed.new.items ++ left.new.items) first }
+    ensures list { passed.new.items ++ left.new.items
+        ≡ take places (placed (O.order order.now) entry (passed.old.items ++ left.old.items)) }
+    ensures undone { (first : List O.Entry)
+        → StepsBack TopStepBack steps.old.items (passed.old.items ++ left.old.items) first
+        → StepsBack TopStepBack steps.new.items (passed.new.items ++ left.new.items) first }
     ensures passed { IsNotBefore (O.order order.now) entry passed.new.items }
     ensures capacity { vec_capacity passed.new ≡ vec_capacity passed.old }
-    ensures noted { (vec_capacity steps.new ≡ vec_capacity steps.old) × (length steps.new.items ≤ length steps.old.items + 1) }
+    ensures noted { (vec_capacity steps.new ≡ vec_capacity steps.old)
+        × (length steps.new.items ≤ length steps.old.items + 1) }
 {
     pass_all(order, passed, left, &entry);
     let at = passed.len();
@@ -110,11 +116,14 @@ fn merge_all<O: Ordered>(
 )
     requires few { length left.old.items ≤ places }
     requires more { IsRanked (O.order order.now) more.items }
-    requires room { min places (length left.old.items + length more.items) ≤ vec_capacity passed.old }
+    requires room { min places (length left.old.items + length more.items)
+        ≤ vec_capacity passed.old }
     requires passed { passed.old.items ≡ [] }
     requires noted { (steps.old.items ≡ []) × (length more.items ≤ vec_capacity steps.old) }
-    ensures list { passed.new.items ++ left.new.items ≡ first_of_both (O.order order.now) places left.old.items more.items }
-    ensures undone { StepsBack TopStepBack steps.new.items (passed.new.items ++ left.new.items) left.old.items }
+    ensures list { passed.new.items ++ left.new.items
+        ≡ first_of_both (O.order order.now) places left.old.items more.items }
+    ensures undone { StepsBack TopStepBack steps.new.items (passed.new.items ++ left.new.items)
+        left.old.items }
     ensures room { length passed.new.items + length left.new.items ≤ vec_capacity passed.new }
 {
     for entry in more {
@@ -133,8 +142,10 @@ pub fn merge_ranked<O: Ordered>(
 ) -> Result<Steps<O::Entry>, NoMemory>
     requires few { length list.old.items ≤ places }
     requires more { IsRanked (O.order order.now) more.items }
-    ensures ok { OnOk result (list.new.items ≡ first_of_both (O.order order.now) places list.old.items more.items) }
-    ensures undone { IfOk result (λ steps. StepsBack TopStepBack steps.items list.new.items list.old.items) }
+    ensures ok { OnOk result (list.new.items
+        ≡ first_of_both (O.order order.now) places list.old.items more.items) }
+    ensures undone { IfOk result (λ steps. StepsBack TopStepBack steps.items list.new.items
+        list.old.items) }
     ensures err { OnErr result (list.new.items ≡ list.old.items) }
 {
     let mut steps = Vec::with_capacity(alloc, more.len())?;

@@ -1,3 +1,4 @@
+// Sets under union.
 ghost use Rattle.std.specs.Prelude.{◌≡◌, Ok, [], IsOk};
 ghost use Rattle.sb_gather.specs.Entries.{AreEntries};
 ghost use Rattle.sb_gather.specs.Maps.{left_of, union, AnyKey};
@@ -61,7 +62,7 @@ impl<K: Key> Joining for SetM<K> {
         Ok(())
     }
 
-    fn part(&self, _a: &mut K, _nothing: ()) {}
+    fn unjoin(&self, _a: &mut K, _nothing: ()) {}
 }
 
 impl<K: Key> Semigroup for SetM<K> {
@@ -119,7 +120,7 @@ impl<K: Key> Commuting for SetM<K> {
 }
 
 impl<K: Key> Undo for SetM<K> {
-    type Record = Steps<()>;
+    type Undone = Steps<()>;
 
     ghost takes_back = { λ _ steps later earlier. StepsBack (StepBack (λ _ y x. y ≡ x)) steps.items later earlier };
 

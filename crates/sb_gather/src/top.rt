@@ -1,6 +1,8 @@
-ghost use Rattle.std.specs.Prelude.{◌≡◌, ◌<◌, ◌≤◌, ◌↔◌, ◌+◌, ℕ, ℤ, Ok, [], ◌++◌, List, length, take, option_to_list, IsSome, IfSome, IfOk, OnOk, OnErr, MatchOption};
+// The first k of scored items.
+ghost use Rattle.std.specs.Prelude.{◌≡◌, ◌<◌, ◌≤◌, ◌↔◌, ◌+◌, ℕ, ℤ, Ok, [], ◌∷◌, ◌++◌, List, length, take, option_to_list, IsSome, IfSome, IfOk, OnOk, OnErr, MatchOption};
 ghost use Rattle.std.specs.List.{insert};
 ghost use Rattle.std.specs.Vec.{vec_len, vec_capacity};
+ghost use Rattle.sb_gather.specs.Limits.{most_places};
 ghost use Rattle.sb_gather.specs.Steps.{TopStepBack, StepsBack};
 ghost use Rattle.sb_gather.specs.Tops.{by_rank, placed, first_of_both, IsTop};
 
@@ -18,7 +20,7 @@ pub type Scored<K> = Items<(i64, K)>;
 /// The most places of a top.
 pub const MOST_PLACES: u32 = 1024;
 
-/// The first k of both lists together; the zero is the empty list. Contracts see the number k.
+/// The first k of both lists together, for k from 1 to 1,024; the zero is the empty list. Contracts see the number k.
 #[derive(Drop)]
 pub struct TopM<K: Key> {
     places: u32,
@@ -29,13 +31,15 @@ impl<K: Key> Model for TopM<K> {
     ghost Value = { ℕ };
 
     ghost view = { λ top. top.places };
+
+    ghost invariant = { λ top. (0 < top.places) × (top.places ≤ most_places) };
 }
 
 impl<K: Key> TopM<K> {
     /// The dictionary of the first `k`, and none exactly where `k` is 0 or above 1,024.
     pub fn new(k: u32) -> Option<TopM<K>>
         ensures number { IfSome result (λ top. top ≡ k) }
-        ensures within { IsSome result ↔ ((0 < k) × (k ≤ 1024)) }
+        ensures within { IsSome result ↔ ((0 < k) × (k ≤ most_places)) }
     {
         if k == 0 || k > MOST_PLACES {
             return None;
@@ -51,6 +55,18 @@ impl<K: Key> TopM<K> {
         ensures { result ≡ self.now }
     {
         self.places as usize
+    }
+
+    /// The list of one scored item.
+    pub fn one(&self, alloc: Global, score: i64, item: K) -> Result<Scored<K>, NoMemory>
+        ensures item { IfOk result (λ list. list ≡ (score, item) ∷ []) }
+        ensures valid { IfOk result (IsTop (by_rank K.cmp) self.now) }
+    {
+        // What is known of the places counts only where they are looked at.
+        let _ = &self.places;
+        let mut list = Vec::with_capacity(alloc, 1)?;
+        list.push((score, item))?;
+        Ok(Items::from_vec(list))
     }
 }
 
@@ -88,7 +104,8 @@ fn room_for_one<T: Drop>(list: &mut Vec<T>, places: usize) -> Result<Option<T>, 
     requires places { 0 < places }
     requires few { length list.old.items ≤ places }
     ensures items { IfOk result (λ out. list.old.items ≡ list.new.items ++ option_to_list out) }
-    ensures out { IfOk result (λ out. MatchOption out (length list.new.items < places) (λ _. length list.new.items + 1 ≡ places)) }
+    ensures out { IfOk result (λ out. MatchOption out (length list.new.items < places)
+        (λ _. length list.new.items + 1 ≡ places)) }
     ensures room { OnOk result (vec_len list.new < vec_capacity list.new) }
     ensures err { OnErr result (list.new.items ≡ list.old.items) }
 {
@@ -108,8 +125,10 @@ fn put_one<K: Key>(
     entry: (i64, K),
 ) -> Result<Option<TopStep<K>>, NoMemory>
     requires { IsTop (by_rank K.cmp) top.now list.old.items }
-    ensures ok { OnOk result (list.new.items ≡ take top.now (placed (by_rank K.cmp) entry list.old.items)) }
-    ensures undone { IfOk result (λ step. MatchOption step (list.new.items ≡ list.old.items) (λ step. TopStepBack step list.new.items list.old.items)) }
+    ensures ok { OnOk result (list.new.items
+        ≡ take top.now (placed (by_rank K.cmp) entry list.old.items)) }
+    ensures undone { IfOk result (λ step. MatchOption step (list.new.items ≡ list.old.items)
+        (λ step. TopStepBack step list.new.items list.old.items)) }
     ensures err { OnErr result (list.new.items ≡ list.old.items) }
 {
     let at = place_among(top, list.as_slice(), &entry);
@@ -129,9 +148,13 @@ fn put_next<K: Key>(
     entry: (i64, K),
 ) -> Result<(), NoMemory>
     requires { IsTop (by_rank K.cmp) top.now list.old.items }
-    ensures ok { OnOk result (list.new.items ≡ take top.now (placed (by_rank K.cmp) entry list.old.items)) }
-    ensures undone { OnOk result ((first : List (ℤ × K)) → StepsBack TopStepBack steps.old.items list.old.items first → StepsBack TopStepBack steps.new.items list.new.items first) }
-    ensures err { OnErr result ((list.new.items ≡ list.old.items) × (steps.new.items ≡ steps.old.items)) }
+    ensures ok { OnOk result (list.new.items
+        ≡ take top.now (placed (by_rank K.cmp) entry list.old.items)) }
+    ensures undone { OnOk result ((first : List (ℤ × K))
+        → StepsBack TopStepBack steps.old.items list.old.items first
+        → StepsBack TopStepBack steps.new.items list.new.items first) }
+    ensures err { OnErr result ((list.new.items ≡ list.old.items)
+        × (steps.new.items ≡ steps.old.items)) }
 {
     steps.reserve(1)?;
     if let Some(step) = put_one(top, list, entry)? {
@@ -142,7 +165,8 @@ fn put_next<K: Key>(
 
 // Takes one step back. One that can't have been done here changes nothing.
 fn step_back<K: Key>(list: &mut Vec<(i64, K)>, step: TopStep<K>)
-    ensures { (earlier : List (ℤ × K)) → TopStepBack step list.old.items earlier → list.new.items ≡ earlier }
+    ensures { (earlier : List (ℤ × K)) → TopStepBack step list.old.items earlier
+        → list.new.items ≡ earlier }
 {
     let (at, out) = step;
     if at >= list.len() {
@@ -156,7 +180,8 @@ fn step_back<K: Key>(list: &mut Vec<(i64, K)>, step: TopStep<K>)
 }
 
 fn take_back<K: Key>(list: &mut Vec<(i64, K)>, steps: Steps<(i64, K)>)
-    ensures { (earlier : List (ℤ × K)) → StepsBack TopStepBack steps.items list.old.items earlier → list.new.items ≡ earlier }
+    ensures { (earlier : List (ℤ × K)) → StepsBack TopStepBack steps.items list.old.items earlier
+        → list.new.items ≡ earlier }
 {
     let mut steps = steps;
     while let Some(step) = steps.pop() {
@@ -172,8 +197,10 @@ fn put_all<K: Key>(
     more: Vec<(i64, K)>,
 ) -> Result<Steps<(i64, K)>, NoMemory>
     requires { IsTop (by_rank K.cmp) top.now list.old.items }
-    ensures ok { OnOk result (list.new.items ≡ first_of_both (by_rank K.cmp) top.now list.old.items more.items) }
-    ensures undone { IfOk result (λ steps. StepsBack TopStepBack steps.items list.new.items list.old.items) }
+    ensures ok { OnOk result (list.new.items
+        ≡ first_of_both (by_rank K.cmp) top.now list.old.items more.items) }
+    ensures undone { IfOk result (λ steps. StepsBack TopStepBack steps.items list.new.items
+        list.old.items) }
     ensures err { OnErr result (list.new.items ≡ list.old.items) }
 {
     let mut steps = Vec::with_capacity(alloc, more.len())?;
@@ -195,8 +222,10 @@ fn put_recorded<K: Key>(
 ) -> Result<Steps<(i64, K)>, NoMemory>
     requires left { IsTop (by_rank K.cmp) top.now list.old.items }
     requires right { IsTop (by_rank K.cmp) top.now more.items }
-    ensures ok { OnOk result (list.new.items ≡ first_of_both (by_rank K.cmp) top.now list.old.items more.items) }
-    ensures undone { IfOk result (λ steps. StepsBack TopStepBack steps.items list.new.items list.old.items) }
+    ensures ok { OnOk result (list.new.items
+        ≡ first_of_both (by_rank K.cmp) top.now list.old.items more.items) }
+    ensures undone { IfOk result (λ steps. StepsBack TopStepBack steps.items list.new.items
+        list.old.items) }
     ensures err { OnErr result (list.new.items ≡ list.old.items) }
 {
     if more.len() < MANY {
@@ -214,7 +243,8 @@ fn put_list<K: Key>(
 ) -> Result<(), NoMemory>
     requires left { IsTop (by_rank K.cmp) top.now list.old.items }
     requires right { IsTop (by_rank K.cmp) top.now more.items }
-    ensures ok { OnOk result (list.new.items ≡ first_of_both (by_rank K.cmp) top.now list.old.items more.items) }
+    ensures ok { OnOk result (list.new.items
+        ≡ first_of_both (by_rank K.cmp) top.now list.old.items more.items) }
     ensures err { OnErr result (list.new.items ≡ list.old.items) }
 {
     if more.len() > 1 {
@@ -247,7 +277,8 @@ fn put_items_recorded<K: Key>(
 }
 
 fn take_items_back<K: Key>(a: &mut Scored<K>, steps: Steps<(i64, K)>)
-    ensures { (earlier : List (ℤ × K)) → StepsBack TopStepBack steps.items a.old earlier → a.new ≡ earlier }
+    ensures { (earlier : List (ℤ × K)) → StepsBack TopStepBack steps.items a.old earlier
+        → a.new ≡ earlier }
 {
     let mut list = a.take();
     take_back(&mut list, steps);
@@ -313,7 +344,7 @@ impl<K: Key> Commuting for TopM<K> {
 }
 
 impl<K: Key> Undo for TopM<K> {
-    type Record = Steps<(i64, K)>;
+    type Undone = Steps<(i64, K)>;
 
     ghost takes_back = { λ _ steps later earlier. StepsBack TopStepBack steps.items later earlier };
 

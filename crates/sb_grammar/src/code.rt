@@ -1,3 +1,5 @@
+// The codes of syntax errors.
+
 /// Why a text is no program's.
 #[derive(Clone, Copy, Debug, PartialEq, Eq)]
 pub enum Code {

@@ -174,7 +174,8 @@ fn push_post(alloc: Global, post: &Post, out: &mut Vec<u8>) -> Result<(), NoMemo
 }
 
 fn push_steps(alloc: Global, steps: &[PostStep], out: &mut Vec<u8>) -> Result<(), NoMemory>
-    ensures { OnOk result (out.new.items ≡ out.old.items ++ spec.each_behind (codes ". ") (map spec.step_text steps.now)) }
+    ensures { OnOk result (out.new.items ≡ out.old.items
+        ++ spec.each_behind (codes ". ") (map spec.step_text steps.now)) }
 {
     for step in steps {
         out.extend_from_slice(b". ")?;
@@ -239,7 +240,8 @@ fn push_atom(alloc: Global, atom: &Atom, out: &mut Vec<u8>) -> Result<(), NoMemo
 
 #[cycle(expression_text)]
 fn push_one(alloc: Global, word: &[u8], inner: &Expr, out: &mut Vec<u8>) -> Result<(), NoMemory>
-    ensures { OnOk result (out.new.items ≡ out.old.items ++ (word.now ++ (spec.expr_text inner.now ++ codes ") "))) }
+    ensures { OnOk result (out.new.items ≡ out.old.items
+        ++ (word.now ++ (spec.expr_text inner.now ++ codes ") "))) }
 {
     out.extend_from_slice(word)?;
     push_expr(alloc, inner, out)?;
@@ -249,7 +251,8 @@ fn push_one(alloc: Global, word: &[u8], inner: &Expr, out: &mut Vec<u8>) -> Resu
 // The first of two, behind a word and a parenthesis.
 #[cycle(expression_text)]
 fn push_first(alloc: Global, word: &[u8], first: &Expr, out: &mut Vec<u8>) -> Result<(), NoMemory>
-    ensures { OnOk result (out.new.items ≡ out.old.items ++ (word.now ++ spec.expr_text first.now)) }
+    ensures { OnOk result (out.new.items ≡ out.old.items
+        ++ (word.now ++ spec.expr_text first.now)) }
 {
     out.extend_from_slice(word)?;
     push_expr(alloc, first, out)
@@ -258,7 +261,8 @@ fn push_first(alloc: Global, word: &[u8], first: &Expr, out: &mut Vec<u8>) -> Re
 // The second, and the parenthesis that closes.
 #[cycle(expression_text)]
 fn push_second(alloc: Global, second: &Expr, out: &mut Vec<u8>) -> Result<(), NoMemory>
-    ensures { OnOk result (out.new.items ≡ out.old.items ++ (codes ", " ++ (spec.expr_text second.now ++ codes ") "))) }
+    ensures { OnOk result (out.new.items ≡ out.old.items
+        ++ (codes ", " ++ (spec.expr_text second.now ++ codes ") "))) }
 {
     out.extend_from_slice(b", ")?;
     push_expr(alloc, second, out)?;
@@ -267,7 +271,8 @@ fn push_second(alloc: Global, second: &Expr, out: &mut Vec<u8>) -> Result<(), No
 
 #[cycle(expression_text)]
 fn push_list(alloc: Global, parts: &[Expr], out: &mut Vec<u8>) -> Result<(), NoMemory>
-    ensures { OnOk result (out.new.items ≡ out.old.items ++ spec.listed (map spec.expr_text parts.now)) }
+    ensures { OnOk result (out.new.items ≡ out.old.items
+        ++ spec.listed (map spec.expr_text parts.now)) }
 {
     for (at, part) in parts.iter().enumerate() {
         out.extend_from_slice(comma_before(at))?;
@@ -277,7 +282,8 @@ fn push_list(alloc: Global, parts: &[Expr], out: &mut Vec<u8>) -> Result<(), NoM
 }
 
 fn push_typed(alloc: Global, word: &[u8], of: &TypeTree, out: &mut Vec<u8>) -> Result<(), NoMemory>
-    ensures { OnOk result (out.new.items ≡ out.old.items ++ (word.now ++ (spec.type_text of.now ++ codes ") "))) }
+    ensures { OnOk result (out.new.items ≡ out.old.items
+        ++ (word.now ++ (spec.type_text of.now ++ codes ") "))) }
 {
     out.extend_from_slice(word)?;
     push_type(alloc, of, out)?;

@@ -1,3 +1,4 @@
+// Programs as texts.
 ghost use Rattle.std.specs.Prelude.{◌≡◌, ◌++◌, List, IfOk, OnOk, OnErr};
 ghost use Rattle.sb_tokens.specs.Token.{Token};
 ghost use Rattle.sb_grammar.specs.Program.{IsProgram};
@@ -12,7 +13,8 @@ use std::alloc::Global;
 /// Writes the program at the end of `out`: the tokens of each statement with one space between and LF at its end, such
 /// as `let a = b | map it . 1`.
 pub fn print(alloc: Global, p: &Program, out: &mut Vec<u8>) -> Result<(), NoMemory>
-    ensures ok { OnOk result ((statements : List (List Token)) → IsProgram p.now statements → out.new.items ≡ out.old.items ++ printed statements) }
+    ensures ok { OnOk result ((statements : List (List Token)) → IsProgram p.now statements
+        → out.new.items ≡ out.old.items ++ printed statements) }
     ensures err { OnErr result (out.new.items ≡ out.old.items) }
 {
     let lines = lines_of(alloc, p)?;
@@ -21,7 +23,9 @@ pub fn print(alloc: Global, p: &Program, out: &mut Vec<u8>) -> Result<(), NoMemo
 }
 
 fn lines_of(alloc: Global, p: &Program) -> Result<Vec<u8>, NoMemory>
-    ensures { IfOk result (λ lines. lines.items ≡ spec.lines_text (spec.ended (spec.batch_text p.now.length p.now.minus p.now.from)) p.now.statements) }
+    ensures { IfOk result (λ lines. lines.items
+        ≡ spec.lines_text (spec.ended (spec.batch_text p.now.length p.now.minus p.now.from))
+        p.now.statements) }
 {
     let mut lines = Vec::new(alloc);
     push_batch(alloc, p.length, p.minus, p.from, &mut lines)?;

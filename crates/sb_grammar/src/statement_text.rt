@@ -81,7 +81,9 @@ fn push_named(alloc: Global, word: &[u8], name: &Text, out: &mut Vec<u8>) -> Res
 }
 
 fn push_signature(key: Scalar, value: Scalar, out: &mut Vec<u8>) -> Result<(), NoMemory>
-    ensures { OnOk result (out.new.items ≡ out.old.items ++ (codes "( " ++ (spec.scalar_text key ++ (codes "-> " ++ (spec.scalar_text value ++ codes ") "))))) }
+    ensures { OnOk result (out.new.items ≡ out.old.items
+        ++ (codes "( " ++ (spec.scalar_text key
+        ++ (codes "-> " ++ (spec.scalar_text value ++ codes ") "))))) }
 {
     out.extend_from_slice(b"( ")?;
     out.extend_from_slice(scalar_text(key))?;
@@ -91,14 +93,16 @@ fn push_signature(key: Scalar, value: Scalar, out: &mut Vec<u8>) -> Result<(), N
 }
 
 fn push_sum(alloc: Global, mono: &MonoTree, out: &mut Vec<u8>) -> Result<(), NoMemory>
-    ensures { OnOk result (out.new.items ≡ out.old.items ++ (codes "| sumByKey " ++ spec.mono_text mono.now)) }
+    ensures { OnOk result (out.new.items ≡ out.old.items
+        ++ (codes "| sumByKey " ++ spec.mono_text mono.now)) }
 {
     out.extend_from_slice(b"| sumByKey ")?;
     push_mono(alloc, mono, out)
 }
 
 fn push_fields(alloc: Global, fields: &[FieldTree], out: &mut Vec<u8>) -> Result<(), NoMemory>
-    ensures { OnOk result (out.new.items ≡ out.old.items ++ spec.listed (map spec.field_text fields.now)) }
+    ensures { OnOk result (out.new.items ≡ out.old.items
+        ++ spec.listed (map spec.field_text fields.now)) }
 {
     for (at, field) in fields.iter().enumerate() {
         out.extend_from_slice(comma_before(at))?;
@@ -140,7 +144,8 @@ fn push_head(alloc: Global, head: &Head, out: &mut Vec<u8>) -> Result<(), NoMemo
 }
 
 fn push_stages(alloc: Global, stages: &[Stage], out: &mut Vec<u8>) -> Result<(), NoMemory>
-    ensures { OnOk result (out.new.items ≡ out.old.items ++ spec.each_behind (codes "| ") (map spec.stage_text stages.now)) }
+    ensures { OnOk result (out.new.items ≡ out.old.items
+        ++ spec.each_behind (codes "| ") (map spec.stage_text stages.now)) }
 {
     for stage in stages {
         out.extend_from_slice(b"| ")?;

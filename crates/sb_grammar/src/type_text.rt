@@ -85,7 +85,8 @@ pub fn push_mono(alloc: Global, mono: &MonoTree, out: &mut Vec<u8>) -> Result<()
 }
 
 fn push_numbered(alloc: Global, word: &[u8], number: u64, out: &mut Vec<u8>) -> Result<(), NoMemory>
-    ensures { OnOk result (out.new.items ≡ out.old.items ++ (word.now ++ (spec.number_text number ++ codes ") "))) }
+    ensures { OnOk result (out.new.items ≡ out.old.items
+        ++ (word.now ++ (spec.number_text number ++ codes ") "))) }
 {
     out.extend_from_slice(word)?;
     push_number(alloc, number, out)?;

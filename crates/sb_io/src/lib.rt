@@ -10,6 +10,3 @@ pub use memory::{MemShelf, MemSink, NoMemory};
 pub use shelf::{Fetched, Shelf, ShelfError};
 pub use sink::{Sink, SinkError};
 pub use system::{FsShelf, StdSink};
-
-#[cfg(test)]
-mod tests;

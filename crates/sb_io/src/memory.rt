@@ -79,9 +79,11 @@ fn find<'a>(files: &'a [MemFile], name: &[u8]) -> Option<&'a Vec<u8>>
 
 // Notes the name of a failed fetch.
 pub(crate) fn note(alloc: Global, failed: &mut Vec<Vec<u8>>, name: &[u8]) -> ShelfError
-    ensures cause { HasShelfCause name.now (times failed.old.items) (times failed.new.items) (refused result) }
+    ensures cause { HasShelfCause name.now (times failed.old.items) (times failed.new.items)
+        (refused result) }
     ensures later { (any : List ℕ) → times failed.old.items any ≤ times failed.new.items any }
-    ensures others { (other : List ℕ) → other ≢ name.now → times failed.new.items other ≡ times failed.old.items other }
+    ensures others { (other : List ℕ) → other ≢ name.now
+        → times failed.new.items other ≡ times failed.old.items other }
 {
     match name.to_vec(alloc) {
         Ok(noted) => push(failed, noted),
@@ -90,7 +92,8 @@ pub(crate) fn note(alloc: Global, failed: &mut Vec<Vec<u8>>, name: &[u8]) -> She
 }
 
 fn push(failed: &mut Vec<Vec<u8>>, noted: Vec<u8>) -> ShelfError
-    ensures failed { result ≡ ShelfError.Failed → failed.new.items ≡ failed.old.items ++ noted ∷ [] }
+    ensures failed { result ≡ ShelfError.Failed
+        → failed.new.items ≡ failed.old.items ++ noted ∷ [] }
     ensures memory { result ≡ ShelfError.NoMemory → failed.new.items ≡ failed.old.items }
 {
     match failed.push(noted) {

@@ -1,10 +1,15 @@
+// A receiver of bytes, and the cause of each fault.
 ghost use Rattle.std.specs.Prelude.{ℕ, List, Option};
 ghost use Rattle.sb_io.specs.Sink.{Puts, HasSinkCause};
 
+use thiserror::Error;
+
 /// Why bytes weren't written: a fault of the sink, which its count of faults shows, or want of memory.
-#[derive(Clone, Copy, Debug, PartialEq, Eq)]
+#[derive(Clone, Copy, Debug, PartialEq, Eq, Error)]
 pub enum SinkError {
+    #[error("the bytes can't be written")]
     Failed,
+    #[error("out of memory")]
     NoMemory,
 }
 

@@ -7,8 +7,8 @@ use Rattle.std.specs.declared.cmp.Ordering.{Ordering}
 use Rattle.sb_types.specs.Order.{value_cmp}
 use Rattle.sb_types.specs.ValView.{value_of}
 use Rattle.sb_types.specs.declared.values.Val.{Val, Int}
-use Rattle.sb_gather.specs.Entries.{AreEntries}
-use Rattle.sb_gather.specs.Maps.{AnyKey, union, by_key, maps_added}
+use Rattle.sb_gather.specs.Entries.{AreEntries, entry_added}
+use Rattle.sb_gather.specs.Maps.{AnyKey, union, by_key, values_added, maps_added}
 use Rattle.sb_gather.specs.Tops.{by_rank, IsTop, first_of_both}
 use Rattle.sb_sketch.specs.Cells.{counts_added, greatest_of_both}
 use Rattle.sb_sketch.specs.Cms.{AreCounts}
@@ -129,3 +129,14 @@ plus (sketches d w) a b = Cms (counts_added (cells_in a) (cells_in b))
 plus (registers r) a b = Hll (greatest_of_both (registers_in a) (registers_in b))
 plus (pairs m n) a b = Pair (plus m (left_in a) (left_in b)) (plus n (right_in a) (right_in b))
 plus (maps m) a b = Map (maps_added val_cmp (plus m) (entries_in a) (entries_in b))
+
+-- the entries of a map whose parts are elements of the monoid
+abbrev pub AreEntriesOf : Monoid → List (Val × Agg) → Type 0
+AreEntriesOf m = AreEntries (by_key val_cmp) (λ entry. IsOf m entry.1)
+
+-- such entries with one more, and with those of another map
+abbrev pub entry_plus : Monoid → Val × Agg → List (Val × Agg) → List (Val × Agg)
+entry_plus m = entry_added (by_key val_cmp) (values_added (plus m))
+
+abbrev pub entries_plus : Monoid → List (Val × Agg) → List (Val × Agg) → List (Val × Agg)
+entries_plus m = maps_added val_cmp (plus m)

@@ -11,7 +11,7 @@ use Rattle.sb_types.specs.ValView.{value_of}
 use Rattle.sb_types.proofs.OrderEqual.{value_equal}
 use Rattle.sb_types.proofs.ValBack.{same_val}
 use Rattle.sb_scalars.specs.Wrapping.{wrapping_fits, wrapping_associates, wrapping_commutes}
-use Rattle.sb_scalars.specs.Extremes.{min_fits, min_associates, min_commutes, max_fits, max_associates, max_commutes}
+use Rattle.sb_scalars.specs.MinMax.{min_fits, min_associates, min_commutes, max_fits, max_associates, max_commutes}
 use Rattle.sb_types.specs.declared.values.Val.{Val}
 use Rattle.sb_gather.specs.Entries.{AreEntries}
 use Rattle.sb_gather.specs.EntryLaws.{all_keep, entries_associate, entries_commute}

@@ -1,5 +1,7 @@
 -- Monoids as definitions see them: the plain mirror of `Mono` and of `Kind`.
 use Rattle.std.specs.Prelude.{◌≡◌, ℕ, ◌*◌, ◌<◌, ◌≤◌, Bool, true, false, ◌&&◌}
+use Rattle.sb_gather.specs.Limits.{most_places}
+use Rattle.sb_sketch.specs.Limits.{most_rows, most_cells, least_bits, most_bits}
 use Rattle.sb_types.specs.declared.types.Mono.{Mono}
 use Rattle.sb_types.specs.declared.types.Mono.TheOpen as text
 use Rattle.sb_types.specs.declared.types.Mono.TheOpen.{Mono-F}
@@ -47,9 +49,9 @@ IsWithin firsts = Unit {0}
 IsWithin lasts = Unit {0}
 IsWithin concats = Unit {0}
 IsWithin sets = Unit {0}
-IsWithin (tops k) = (0 < k) × (k ≤ 1024)
-IsWithin (sketches d w) = (0 < d) × (d ≤ 16) × (0 < w) × (d * w ≤ 4096)
-IsWithin (registers b) = (4 ≤ b) × (b ≤ 12)
+IsWithin (tops k) = (0 < k) × (k ≤ most_places)
+IsWithin (sketches d w) = (0 < d) × (d ≤ most_rows) × (0 < w) × (d * w ≤ most_cells)
+IsWithin (registers b) = (least_bits ≤ b) × (b ≤ most_bits)
 IsWithin (pairs m n) = IsWithin m × IsWithin n
 IsWithin (maps m) = IsWithin m
 

@@ -5,6 +5,7 @@ use Rattle.sb_gather.specs.Steps.{StepBack, StepsBack, TopStepBack}
 use Rattle.sb_kind.specs.Elements.{values_in, scored_in, left_in, right_in, entries_in}
 use Rattle.sb_kind.specs.Monoids.{Monoid, sums, least, greatest, firsts, lasts, concats, sets, tops, sketches, registers, pairs, maps}
 use Rattle.sb_kind.specs.declared.agg.Agg.{Agg, Sum, Concat, Set, Top, Pair, Map}
+use Rattle.sb_types.specs.declared.values.Val.{Val}
 use Rattle.sb_kind.specs.declared.undone.Undone.{Undone, out-Undone, Nothing}
 use Rattle.sb_kind.specs.declared.undone.Undone.TheOpen as layer
 use Rattle.sb_kind.specs.declared.undone.Undone.TheOpen.{Undone-F}
@@ -81,3 +82,10 @@ TakesBack (pairs m n) u later earlier =
     × TakesBack m (first_in u) (left_in later) (left_in earlier) × TakesBack n (second_in u) (right_in later) (right_in earlier)
 TakesBack (maps m) u later earlier =
     (earlier ≡ Map (entries_in earlier)) × StepsBack (StepBack (ValueBack (TakesBack m))) (entry_steps u) (entries_in later) (entries_in earlier)
+
+-- the steps take the later entries of a map back to the earlier ones, where the parts are elements of the monoid
+abbrev pub StepBackBy : Monoid → ℕ × Option Undone → List (Val × Agg) → List (Val × Agg) → Type 0
+StepBackBy m = StepBack (ValueBack (TakesBack m))
+
+abbrev pub StepsBackBy : Monoid → List (ℕ × Option Undone) → List (Val × Agg) → List (Val × Agg) → Type 0
+StepsBackBy m = StepsBack (StepBack (ValueBack (TakesBack m)))

@@ -1,18 +1,21 @@
+// Elements added in place, with what takes an addition back.
 ghost use Rattle.std.specs.Prelude.{◌≡◌, ◌≤◌, [], List, length, drop, IfOk, OnOk, OnErr};
 ghost use Rattle.std.specs.List.{AllByRecursion};
-ghost use Rattle.sb_gather.specs.Entries.{AreEntries, entry_added, entries_added};
-ghost use Rattle.sb_gather.specs.Maps.{by_key, values_added, ValueBack};
+ghost use Rattle.sb_gather.specs.Maps.{by_key};
 ghost use Rattle.sb_gather.specs.Merges.{turned, IsAfter, IsNotBefore};
-ghost use Rattle.sb_gather.specs.Steps.{StepBack, StepsBack};
-ghost use Rattle.sb_kind.specs.Elements.{IsOf, plus, val_cmp};
+ghost use Rattle.sb_kind.specs.Elements.{IsOf, AreEntriesOf, plus, entry_plus, entries_plus};
+ghost use Rattle.sb_kind.specs.Elements.{val_cmp};
 ghost use Rattle.sb_kind.specs.KindView.{monoid_of};
-ghost use Rattle.sb_kind.specs.Monoids.{concats, sets, tops, sketches, registers, IsPair, first_part, second_part};
-ghost use Rattle.sb_kind.specs.Undoing.{TakesBack, kept_in, first_in, second_in};
+ghost use Rattle.sb_kind.specs.Monoids.{concats, sets, tops, sketches, registers};
+ghost use Rattle.sb_kind.specs.Monoids.{IsPair, first_part, second_part};
+ghost use Rattle.sb_kind.specs.Undoing.{TakesBack, StepBackBy, StepsBackBy};
+ghost use Rattle.sb_kind.specs.Undoing.{kept_in, first_in, second_in};
 ghost use Rattle.sb_kind.specs.declared.agg.Agg.{Agg};
 ghost use Rattle.sb_types.specs.declared.values.Val.{Val};
 
 use crate::agg::Agg;
 use crate::boxed::Boxed;
+use crate::keyed::{ByKey, ValueSets};
 use crate::kind::Kind;
 use crate::many::Many;
 use crate::parts::{
@@ -21,7 +24,6 @@ use crate::parts::{
 };
 use crate::undoing::{take_back, undo};
 use crate::undone::Undone;
-use crate::values::{ByKey, ValueSets};
 use sb_gather::{MANY, TopM, pass_before, place_of, plus_items_recorded};
 use sb_laws::{Items, NoMemory, Undo};
 use sb_sketch::{CmsM, HllM};
@@ -187,11 +189,15 @@ fn add_both(
     y: Agg,
 ) -> Result<(Undone, Undone), NoMemory>
     requires pair { IsPair (monoid_of kind.now) }
-    requires left { IsOf (first_part (monoid_of kind.now)) left.old × IsOf (first_part (monoid_of kind.now)) x }
-    requires right { IsOf (second_part (monoid_of kind.now)) right.old × IsOf (second_part (monoid_of kind.now)) y }
+    requires left { IsOf (first_part (monoid_of kind.now)) left.old
+        × IsOf (first_part (monoid_of kind.now)) x }
+    requires right { IsOf (second_part (monoid_of kind.now)) right.old
+        × IsOf (second_part (monoid_of kind.now)) y }
     ensures left { OnOk result (left.new ≡ plus (first_part (monoid_of kind.now)) left.old x) }
     ensures right { OnOk result (right.new ≡ plus (second_part (monoid_of kind.now)) right.old y) }
-    ensures undone { IfOk result (λ undone. TakesBack (first_part (monoid_of kind.now)) undone.0 left.new left.old × TakesBack (second_part (monoid_of kind.now)) undone.1 right.new right.old) }
+    ensures undone { IfOk result
+        (λ undone. TakesBack (first_part (monoid_of kind.now)) undone.0 left.new left.old
+        × TakesBack (second_part (monoid_of kind.now)) undone.1 right.new right.old) }
     ensures err { OnErr result ((left.new ≡ left.old) × (right.new ≡ right.old)) }
 {
     let Kind::Pair(left_kind, right_kind) = kind else {
@@ -215,10 +221,12 @@ fn add_all(
     list: &mut Vec<(Val, Agg)>,
     more: Vec<(Val, Agg)>,
 ) -> Result<Vec<(usize, Option<Undone>)>, NoMemory>
-    requires list { AreEntries (by_key val_cmp) (λ entry. IsOf (monoid_of part.now) entry.1) list.old.items }
-    requires more { AreEntries (by_key val_cmp) (λ entry. IsOf (monoid_of part.now) entry.1) more.items }
-    ensures ok { OnOk result (list.new.items ≡ entries_added (by_key val_cmp) (values_added (plus (monoid_of part.now))) list.old.items more.items) }
-    ensures undone { IfOk result (λ steps. StepsBack (StepBack (ValueBack (TakesBack (monoid_of part.now)))) steps.items list.new.items list.old.items) }
+    requires list { AreEntriesOf (monoid_of part.now) list.old.items }
+    requires more { AreEntriesOf (monoid_of part.now) more.items }
+    ensures ok { OnOk result (list.new.items
+        ≡ entries_plus (monoid_of part.now) list.old.items more.items) }
+    ensures undone { IfOk result
+        (λ steps. StepsBackBy (monoid_of part.now) steps.items list.new.items list.old.items) }
     ensures err { OnErr result (list.new.items ≡ list.old.items) }
 {
     if more.len() < MANY {
@@ -235,10 +243,12 @@ fn add_entries(
     list: &mut Vec<(Val, Agg)>,
     more: Vec<(Val, Agg)>,
 ) -> Result<Vec<(usize, Option<Undone>)>, NoMemory>
-    requires list { AreEntries (by_key val_cmp) (λ entry. IsOf (monoid_of part.now) entry.1) list.old.items }
+    requires list { AreEntriesOf (monoid_of part.now) list.old.items }
     requires more { AllByRecursion (λ entry. IsOf (monoid_of part.now) entry.1) more.items }
-    ensures ok { OnOk result (list.new.items ≡ entries_added (by_key val_cmp) (values_added (plus (monoid_of part.now))) list.old.items more.items) }
-    ensures undone { IfOk result (λ steps. StepsBack (StepBack (ValueBack (TakesBack (monoid_of part.now)))) steps.items list.new.items list.old.items) }
+    ensures ok { OnOk result (list.new.items
+        ≡ entries_plus (monoid_of part.now) list.old.items more.items) }
+    ensures undone { IfOk result
+        (λ steps. StepsBackBy (monoid_of part.now) steps.items list.new.items list.old.items) }
     ensures err { OnErr result (list.new.items ≡ list.old.items) }
 {
     let mut steps = Vec::with_capacity(alloc, more.len())?;
@@ -260,11 +270,15 @@ fn add_next(
     steps: &mut Vec<(usize, Option<Undone>)>,
     entry: (Val, Agg),
 ) -> Result<(), NoMemory>
-    requires list { AreEntries (by_key val_cmp) (λ entry. IsOf (monoid_of part.now) entry.1) list.old.items }
+    requires list { AreEntriesOf (monoid_of part.now) list.old.items }
     requires entry { IsOf (monoid_of part.now) entry.1 }
-    ensures ok { OnOk result (list.new.items ≡ entry_added (by_key val_cmp) (values_added (plus (monoid_of part.now))) entry list.old.items) }
-    ensures undone { OnOk result ((first : List (Val × Agg)) → StepsBack (StepBack (ValueBack (TakesBack (monoid_of part.now)))) steps.old.items list.old.items first → StepsBack (StepBack (ValueBack (TakesBack (monoid_of part.now)))) steps.new.items list.new.items first) }
-    ensures err { OnErr result ((list.new.items ≡ list.old.items) × (steps.new.items ≡ steps.old.items)) }
+    ensures ok { OnOk result (list.new.items
+        ≡ entry_plus (monoid_of part.now) entry list.old.items) }
+    ensures undone { OnOk result ((first : List (Val × Agg))
+        → StepsBackBy (monoid_of part.now) steps.old.items list.old.items first
+        → StepsBackBy (monoid_of part.now) steps.new.items list.new.items first) }
+    ensures err { OnErr result ((list.new.items
+        ≡ list.old.items) × (steps.new.items ≡ steps.old.items)) }
 {
     steps.reserve(1)?;
     let step = add_entry(part, alloc, list, entry)?;
@@ -280,10 +294,12 @@ fn add_entry(
     list: &mut Vec<(Val, Agg)>,
     entry: (Val, Agg),
 ) -> Result<(usize, Option<Undone>), NoMemory>
-    requires list { AreEntries (by_key val_cmp) (λ entry. IsOf (monoid_of part.now) entry.1) list.old.items }
+    requires list { AreEntriesOf (monoid_of part.now) list.old.items }
     requires entry { IsOf (monoid_of part.now) entry.1 }
-    ensures ok { OnOk result (list.new.items ≡ entry_added (by_key val_cmp) (values_added (plus (monoid_of part.now))) entry list.old.items) }
-    ensures undone { IfOk result (λ step. StepBack (ValueBack (TakesBack (monoid_of part.now))) step list.new.items list.old.items) }
+    ensures ok { OnOk result (list.new.items
+        ≡ entry_plus (monoid_of part.now) entry list.old.items) }
+    ensures undone { IfOk result
+        (λ step. StepBackBy (monoid_of part.now) step list.new.items list.old.items) }
     ensures err { OnErr result (list.new.items ≡ list.old.items) }
 {
     match place_of(&ByKey, list.as_slice(), &entry) {
@@ -306,10 +322,12 @@ fn merge_entries(
     list: &mut Vec<(Val, Agg)>,
     more: Vec<(Val, Agg)>,
 ) -> Result<Vec<(usize, Option<Undone>)>, NoMemory>
-    requires list { AreEntries (by_key val_cmp) (λ entry. IsOf (monoid_of part.now) entry.1) list.old.items }
-    requires more { AreEntries (by_key val_cmp) (λ entry. IsOf (monoid_of part.now) entry.1) more.items }
-    ensures ok { OnOk result (list.new.items ≡ entries_added (by_key val_cmp) (values_added (plus (monoid_of part.now))) list.old.items more.items) }
-    ensures undone { IfOk result (λ steps. StepsBack (StepBack (ValueBack (TakesBack (monoid_of part.now)))) steps.items list.new.items list.old.items) }
+    requires list { AreEntriesOf (monoid_of part.now) list.old.items }
+    requires more { AreEntriesOf (monoid_of part.now) more.items }
+    ensures ok { OnOk result (list.new.items
+        ≡ entries_plus (monoid_of part.now) list.old.items more.items) }
+    ensures undone { IfOk result
+        (λ steps. StepsBackBy (monoid_of part.now) steps.items list.new.items list.old.items) }
     ensures err { OnErr result (list.new.items ≡ list.old.items) }
 {
     let mut steps = Vec::with_capacity(alloc, more.len())?;
@@ -336,12 +354,15 @@ fn merge_all(
     steps: &mut Vec<(usize, Option<Undone>)>,
     more: Vec<(Val, Agg)>,
 ) -> Result<(), NoMemory>
-    requires list { AreEntries (by_key val_cmp) (λ entry. IsOf (monoid_of part.now) entry.1) (turned left.old ring.old.items) }
-    requires more { AreEntries (by_key val_cmp) (λ entry. IsOf (monoid_of part.now) entry.1) more.items }
+    requires list { AreEntriesOf (monoid_of part.now) (turned left.old ring.old.items) }
+    requires more { AreEntriesOf (monoid_of part.now) more.items }
     requires within { left.old ≤ length ring.old.items }
     requires nothing { drop left.old ring.old.items ≡ [] }
-    ensures ok { OnOk result (turned left.new ring.new.items ≡ entries_added (by_key val_cmp) (values_added (plus (monoid_of part.now))) (turned left.old ring.old.items) more.items) }
-    ensures undone { (first : List (Val × Agg)) → StepsBack (StepBack (ValueBack (TakesBack (monoid_of part.now)))) steps.old.items (turned left.old ring.old.items) first → StepsBack (StepBack (ValueBack (TakesBack (monoid_of part.now)))) steps.new.items (turned left.new ring.new.items) first }
+    ensures ok { OnOk result (turned left.new ring.new.items
+        ≡ entries_plus (monoid_of part.now) (turned left.old ring.old.items) more.items) }
+    ensures undone { (first : List (Val × Agg))
+        → StepsBackBy (monoid_of part.now) steps.old.items (turned left.old ring.old.items) first
+        → StepsBackBy (monoid_of part.now) steps.new.items (turned left.new ring.new.items) first }
     ensures within { left.new ≤ length ring.new.items }
 {
     for entry in more {
@@ -360,14 +381,19 @@ fn merge_next(
     steps: &mut Vec<(usize, Option<Undone>)>,
     entry: (Val, Agg),
 ) -> Result<(), NoMemory>
-    requires list { AllByRecursion (λ entry. IsOf (monoid_of part.now) entry.1) (turned left.old ring.old.items) }
+    requires list { AllByRecursion (λ entry. IsOf (monoid_of part.now) entry.1)
+        (turned left.old ring.old.items) }
     requires entry { IsOf (monoid_of part.now) entry.1 }
     requires within { left.old ≤ length ring.old.items }
     requires passed { IsAfter (by_key val_cmp) entry (drop left.old ring.old.items) }
-    ensures ok { OnOk result (turned left.new ring.new.items ≡ entry_added (by_key val_cmp) (values_added (plus (monoid_of part.now))) entry (turned left.old ring.old.items)) }
-    ensures undone { (first : List (Val × Agg)) → StepsBack (StepBack (ValueBack (TakesBack (monoid_of part.now)))) steps.old.items (turned left.old ring.old.items) first → StepsBack (StepBack (ValueBack (TakesBack (monoid_of part.now)))) steps.new.items (turned left.new ring.new.items) first }
+    ensures ok { OnOk result (turned left.new ring.new.items
+        ≡ entry_plus (monoid_of part.now) entry (turned left.old ring.old.items)) }
+    ensures undone { (first : List (Val × Agg))
+        → StepsBackBy (monoid_of part.now) steps.old.items (turned left.old ring.old.items) first
+        → StepsBackBy (monoid_of part.now) steps.new.items (turned left.new ring.new.items) first }
     ensures within { left.new ≤ length ring.new.items }
-    ensures passed { OnOk result (IsNotBefore (by_key val_cmp) entry (drop left.new ring.new.items)) }
+    ensures passed { OnOk result
+        (IsNotBefore (by_key val_cmp) entry (drop left.new ring.new.items)) }
 {
     steps.reserve(1)?;
     let ties = pass_before(&ByKey, ring, left, &entry);

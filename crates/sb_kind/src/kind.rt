@@ -1,3 +1,4 @@
+// The monoid that a text names.
 ghost use Rattle.std.specs.Prelude.{◌≡◌, ◌↔◌, IsSome, IsTrue, IfOk, IfSome};
 ghost use Rattle.sb_kind.specs.KindView.{monoid_of};
 ghost use Rattle.sb_kind.specs.Monoids.{monoid_in, IsWithin, commutes, tops, sketches, registers};
@@ -32,7 +33,8 @@ impl Kind {
     /// The kind of a text, and none exactly where a number in it is outside its limit: 1 to 1,024 places of a top,
     /// 1 to 16 rows and at most 4,096 cells of a count-min sketch, 4 to 12 bits of a HyperLogLog.
     pub fn new(alloc: Global, mono: &Mono) -> Result<Option<Kind>, NoMemory>
-        ensures monoid { IfOk result (λ kind. IfSome kind (λ kind. monoid_of kind ≡ monoid_in mono.now)) }
+        ensures monoid { IfOk result (λ kind.
+            IfSome kind (λ kind. monoid_of kind ≡ monoid_in mono.now)) }
         ensures within { IfOk result (λ kind. IsSome kind ↔ IsWithin (monoid_in mono.now)) }
     {
         kind_of(alloc, mono)
@@ -40,7 +42,8 @@ impl Kind {
 }
 
 fn kind_of(alloc: Global, mono: &Mono) -> Result<Option<Kind>, NoMemory>
-    ensures monoid { IfOk result (λ kind. IfSome kind (λ kind. monoid_of kind ≡ monoid_in mono.now)) }
+    ensures monoid { IfOk result (λ kind. IfSome kind
+        (λ kind. monoid_of kind ≡ monoid_in mono.now)) }
     ensures within { IfOk result (λ kind. IsSome kind ↔ IsWithin (monoid_in mono.now)) }
 {
     match mono {

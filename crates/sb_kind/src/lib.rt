@@ -6,9 +6,8 @@ mod agg;
 mod boxed;
 mod copying;
 mod dictionary;
-mod fronts;
+mod keyed;
 mod kind;
-mod lists;
 mod many;
 mod parts;
 mod prepared;
@@ -16,7 +15,6 @@ mod reading;
 mod sorted;
 mod undoing;
 mod undone;
-mod values;
 mod writing;
 
 pub use agg::{Agg, Aggs, Tops};
@@ -28,6 +26,3 @@ pub use many::Many;
 pub use prepared::prepare;
 pub use reading::read;
 pub use writing::text;
-
-#[cfg(test)]
-mod tests;

@@ -83,7 +83,8 @@ pub fn into_halves(a: Agg) -> (Agg, Agg)
 /// Takes the left part of a pair out, and leaves an empty one.
 pub fn take_left(a: &mut Agg) -> Agg
     ensures part { result ≡ left_in a.old }
-    ensures rest { a.old ≡ Pair (left_in a.old) (right_in a.old) → a.new ≡ Pair (Sum (pos 0)) (right_in a.old) }
+    ensures rest { a.old ≡ Pair (left_in a.old) (right_in a.old)
+        → a.new ≡ Pair (Sum (pos 0)) (right_in a.old) }
 {
     match a {
         Agg::Pair(left, _) => left.replace(Agg::Sum(0)),
@@ -94,7 +95,8 @@ pub fn take_left(a: &mut Agg) -> Agg
 /// Takes the right part of a pair out, and leaves an empty one.
 pub fn take_right(a: &mut Agg) -> Agg
     ensures part { result ≡ right_in a.old }
-    ensures rest { a.old ≡ Pair (left_in a.old) (right_in a.old) → a.new ≡ Pair (left_in a.old) (Sum (pos 0)) }
+    ensures rest { a.old ≡ Pair (left_in a.old) (right_in a.old)
+        → a.new ≡ Pair (left_in a.old) (Sum (pos 0)) }
 {
     match a {
         Agg::Pair(_, right) => right.replace(Agg::Sum(0)),

@@ -1,7 +1,8 @@
+// The element that one value gives.
 ghost use Rattle.std.specs.Prelude.{◌≡◌, [], ◌∷◌, IfOk};
-ghost use Rattle.sb_kind.specs.Elements.{IsOf};
+ghost use Rattle.sb_gather.specs.Tops.{by_rank, IsTop};
+ghost use Rattle.sb_kind.specs.Elements.{IsOf, text_cmp};
 ghost use Rattle.sb_kind.specs.KindView.{monoid_of};
-ghost use Rattle.sb_kind.specs.Monoids.{IsWithin};
 ghost use Rattle.sb_kind.specs.declared.agg.Agg.{Pair, Map};
 ghost use Rattle.sb_sketch.specs.Cms.{AreCounts, counts_of};
 ghost use Rattle.sb_sketch.specs.Hll.{AreRegisters, registers_of};
@@ -11,6 +12,7 @@ use crate::agg::{Agg, Tops};
 use crate::boxed::Boxed;
 use crate::kind::Kind;
 use crate::many::Many;
+use sb_gather::TopM;
 use sb_laws::{Items, NoMemory};
 use sb_sketch::{Cells, CmsM, HllM, Registers};
 use sb_text::Text;
@@ -59,12 +61,13 @@ fn one_value(alloc: Global, v: Val) -> Result<Items<Val>, NoMemory>
     Ok(Items::from_vec(one(alloc, v)?))
 }
 
-fn one_item(alloc: Global, v: Val) -> Result<Tops, NoMemory>
-    ensures { IfOk result (λ items. items ≡ (int_in (first_in v), text_in (second_in v)) ∷ []) }
+fn one_item(top: &TopM<Text>, alloc: Global, v: Val) -> Result<Tops, NoMemory>
+    ensures items { IfOk result
+        (λ items. items ≡ (int_in (first_in v), text_in (second_in v)) ∷ []) }
+    ensures valid { IfOk result (IsTop (by_rank text_cmp) top.now) }
 {
     let (score, item) = into_halves(v);
-    let entry = (into_int(score), into_text(alloc, item));
-    Ok(Items::from_vec(one(alloc, entry)?))
+    top.one(alloc, into_int(score), into_text(alloc, item))
 }
 
 fn one_count(cms: &CmsM, alloc: Global, v: Val) -> Result<Cells, NoMemory>
@@ -101,7 +104,7 @@ fn map_of(alloc: Global, key: Val, part: Agg) -> Result<Agg, NoMemory>
 /// int and a text for `top`, a text for the sketches, a pair for `pair` and `map`, and any value for the others.
 pub fn prepare(alloc: Global, kind: &Kind, v: Val) -> Result<Agg, NoMemory>
     ensures element { IfOk result (λ a. a ≡ prepared (monoid_of kind.now) v) }
-    ensures valid { IsWithin (monoid_of kind.now) → IfOk result (IsOf (monoid_of kind.now)) }
+    ensures valid { IfOk result (IsOf (monoid_of kind.now)) }
 {
     match kind {
         Kind::Sum => Ok(Agg::Sum(into_int(v))),
@@ -111,7 +114,7 @@ pub fn prepare(alloc: Global, kind: &Kind, v: Val) -> Result<Agg, NoMemory>
         Kind::Last => Ok(Agg::Last(v)),
         Kind::Concat => Ok(Agg::Concat(one_value(alloc, v)?)),
         Kind::Set => Ok(Agg::Set(one_value(alloc, v)?)),
-        Kind::Top(_) => Ok(Agg::Top(one_item(alloc, v)?)),
+        Kind::Top(top) => Ok(Agg::Top(one_item(top, alloc, v)?)),
         Kind::Cms(cms) => Ok(Agg::Cms(one_count(cms, alloc, v)?)),
         Kind::Hll(hll) => Ok(Agg::Hll(one_position(hll, alloc, v)?)),
         Kind::Pair(left_kind, right_kind) => {

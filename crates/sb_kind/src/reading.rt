@@ -1,3 +1,4 @@
+// Elements read from their texts.
 ghost use Rattle.std.specs.Prelude.{◌≡◌, Some, IfOk, IfSome, option_map};
 ghost use Rattle.sb_types.specs.TyView.{type_of};
 ghost use Rattle.sb_kind.specs.ElementText.{element_text};
@@ -8,16 +9,19 @@ ghost use Rattle.sb_kind.specs.Read.{found, found_of, behind, val_front, entry_f
 ghost use Rattle.sb_kind.specs.Typed.{IsTyped};
 ghost use Rattle.sb_kind.specs.declared.agg.Agg.{Agg};
 
-use crate::agg::Agg;
-use crate::boxed::Boxed;
-use crate::fronts::{
+mod leaves;
+mod lists;
+
+use self::leaves::{
     read_first, read_greatest, read_hll, read_last, read_least, read_sum, read_value,
 };
+use self::lists::{after_comma, read_cms, read_concat, read_set, read_top};
+use crate::agg::Agg;
+use crate::boxed::Boxed;
+use crate::keyed::ByKey;
 use crate::kind::Kind;
-use crate::lists::{after_comma, read_cms, read_concat, read_set, read_top};
 use crate::many::Many;
 use crate::sorted::is_sorted;
-use crate::values::ByKey;
 use sb_laws::NoMemory;
 use sb_types::{Ty, Val, expect};
 use std::alloc::Global;
@@ -26,14 +30,19 @@ use std::alloc::Global;
 /// parts, have the types that `elem` gives them: the type itself, or for the parts of a pair and the keys and parts of
 /// a map the two types of a pair.
 pub fn read(alloc: Global, kind: &Kind, elem: &Ty, bytes: &[u8]) -> Result<Option<Agg>, NoMemory>
-    ensures spelled { IfOk result (λ element. IfSome element (λ a. IsOf (monoid_of kind.now) a × IsTyped (monoid_of kind.now) (type_of elem.now) a × (bytes.now ≡ element_text a))) }
-    ensures every { IfOk result (λ element. (a : Agg) → IsOf (monoid_of kind.now) a → IsTyped (monoid_of kind.now) (type_of elem.now) a → bytes.now ≡ element_text a → element ≡ Some a) }
+    ensures spelled { IfOk result (λ element.
+        IfSome element (λ a. IsOf (monoid_of kind.now) a
+        × IsTyped (monoid_of kind.now) (type_of elem.now) a × (bytes.now ≡ element_text a))) }
+    ensures every { IfOk result (λ element. (a : Agg) → IsOf (monoid_of kind.now) a
+        → IsTyped (monoid_of kind.now) (type_of elem.now) a → bytes.now ≡ element_text a
+        → element ≡ Some a) }
 {
     read_whole(alloc, kind, elem, bytes)
 }
 
 fn read_whole(alloc: Global, kind: &Kind, elem: &Ty, bytes: &[u8]) -> Result<Option<Agg>, NoMemory>
-    ensures { IfOk result (λ element. element ≡ element_read (monoid_of kind.now) (type_of elem.now) bytes.now) }
+    ensures { IfOk result (λ element. element
+        ≡ element_read (monoid_of kind.now) (type_of elem.now) bytes.now) }
 {
     match read_front(alloc, kind, elem, bytes)? {
         Some((a, [])) => Ok(Some(a)),
@@ -43,7 +52,8 @@ fn read_whole(alloc: Global, kind: &Kind, elem: &Ty, bytes: &[u8]) -> Result<Opt
 
 // The types of the parts of a pair.
 fn halves(ty: &Ty) -> Option<(&Ty, &Ty)>
-    ensures { option_map (λ h. (type_of h.0.now, type_of h.1.now)) result ≡ halves (type_of ty.now) }
+    ensures { option_map (λ h. (type_of h.0.now, type_of h.1.now)) result
+        ≡ halves (type_of ty.now) }
 {
     match ty {
         Ty::Pair(first, second) => Some((first.get(), second.get())),
@@ -59,7 +69,8 @@ fn read_front<'a>(
     elem: &Ty,
     bytes: &'a [u8],
 ) -> Result<Option<(Agg, &'a [u8])>, NoMemory>
-    ensures { IfOk result (λ read. option_map found_of read ≡ element_front (monoid_of kind.now) (type_of elem.now) bytes.now) }
+    ensures { IfOk result (λ read. option_map found_of read
+        ≡ element_front (monoid_of kind.now) (type_of elem.now) bytes.now) }
 {
     match kind {
         Kind::Sum => Ok(read_sum(bytes)),
@@ -86,7 +97,8 @@ fn read_behind<'a>(
     elem: &Ty,
     bytes: &'a [u8],
 ) -> Result<Option<(Agg, &'a [u8])>, NoMemory>
-    ensures { IfOk result (λ read. option_map found_of read ≡ behind byte (element_front (monoid_of kind.now) (type_of elem.now)) bytes.now) }
+    ensures { IfOk result (λ read. option_map found_of read
+        ≡ behind byte (element_front (monoid_of kind.now) (type_of elem.now)) bytes.now) }
 {
     match expect(byte, bytes) {
         Some(bytes) => read_front(alloc, kind, elem, bytes),
@@ -102,7 +114,8 @@ fn read_pair<'a>(
     bytes: &'a [u8],
 ) -> Result<Option<(Agg, &'a [u8])>, NoMemory>
     requires { IsPair (monoid_of kind.now) }
-    ensures { IfOk result (λ read. option_map found_of read ≡ element_front (monoid_of kind.now) (type_of elem.now) bytes.now) }
+    ensures { IfOk result (λ read. option_map found_of read
+        ≡ element_front (monoid_of kind.now) (type_of elem.now) bytes.now) }
 {
     let Kind::Pair(left, right) = kind else {
         unreachable!();
@@ -130,7 +143,8 @@ fn read_map<'a>(
     elem: &Ty,
     bytes: &'a [u8],
 ) -> Result<Option<(Agg, &'a [u8])>, NoMemory>
-    ensures { IfOk result (λ read. option_map found_of read ≡ element_front (maps (monoid_of part.now)) (type_of elem.now) bytes.now) }
+    ensures { IfOk result (λ read. option_map found_of read
+        ≡ element_front (maps (monoid_of part.now)) (type_of elem.now) bytes.now) }
 {
     let Some((key, value)) = halves(elem) else {
         return Ok(None);
@@ -157,7 +171,9 @@ fn read_entries<'a>(
     value: &Ty,
     bytes: &'a [u8],
 ) -> Result<(Vec<(Val, Agg)>, &'a [u8]), NoMemory>
-    ensures { IfOk result (λ read. found read.0.items read.1.now ≡ items_front (entry_front (val_front (type_of key.now)) (element_front (monoid_of part.now) (type_of value.now))) bytes.now) }
+    ensures { IfOk result (λ read. found read.0.items read.1.now
+        ≡ items_front (entry_front (val_front (type_of key.now))
+        (element_front (monoid_of part.now) (type_of value.now))) bytes.now) }
 {
     let mut entries = Vec::new(alloc);
     let mut rest = bytes;
@@ -181,7 +197,9 @@ fn read_entry<'a>(
     at: usize,
     bytes: &'a [u8],
 ) -> Result<Option<((Val, Agg), &'a [u8])>, NoMemory>
-    ensures { IfOk result (λ read. option_map found_of read ≡ item_at (entry_front (val_front (type_of key.now)) (element_front (monoid_of part.now) (type_of value.now))) at bytes.now) }
+    ensures { IfOk result (λ read. option_map found_of read
+        ≡ item_at (entry_front (val_front (type_of key.now))
+        (element_front (monoid_of part.now) (type_of value.now))) at bytes.now) }
 {
     let Some(bytes) = after_comma(at, bytes) else {
         return Ok(None);

@@ -1,13 +1,13 @@
+// Additions taken back.
 ghost use Rattle.std.specs.Prelude.{◌≡◌, List};
-ghost use Rattle.sb_gather.specs.Maps.{ValueBack};
-ghost use Rattle.sb_gather.specs.Steps.{StepBack, StepsBack};
 ghost use Rattle.sb_kind.specs.KindView.{monoid_of};
 ghost use Rattle.sb_kind.specs.Monoids.{concats, sets, tops};
-ghost use Rattle.sb_kind.specs.Undoing.{TakesBack};
+ghost use Rattle.sb_kind.specs.Undoing.{TakesBack, StepBackBy, StepsBackBy};
 ghost use Rattle.sb_kind.specs.declared.agg.Agg.{Agg};
 ghost use Rattle.sb_types.specs.declared.values.Val.{Val};
 
 use crate::agg::Agg;
+use crate::keyed::ValueSets;
 use crate::kind::Kind;
 use crate::many::Many;
 use crate::parts::{
@@ -16,7 +16,6 @@ use crate::parts::{
 use crate::undone::{
     Undone, into_both, into_entry_steps, into_item_steps, into_kept, into_key_steps, length_of,
 };
-use crate::values::ValueSets;
 use sb_gather::{TopM, take_items_back};
 use sb_laws::Undo;
 use sb_text::Text;
@@ -50,7 +49,8 @@ fn undo_top(top: &TopM<Text>, alloc: Global, a: &mut Agg, undone: Undone)
 /// Takes an addition back. No memory is taken.
 #[cycle(undo)]
 pub fn undo(kind: &Kind, alloc: Global, a: &mut Agg, undone: Undone)
-    ensures { (earlier : Agg) → TakesBack (monoid_of kind.now) undone a.old earlier → a.new ≡ earlier }
+    ensures { (earlier : Agg) → TakesBack (monoid_of kind.now) undone a.old earlier
+        → a.new ≡ earlier }
 {
     match kind {
         Kind::First => {}
@@ -89,7 +89,8 @@ pub fn take_back(
     list: &mut Vec<(Val, Agg)>,
     steps: Vec<(usize, Option<Undone>)>,
 )
-    ensures { (earlier : List (Val × Agg)) → StepsBack (StepBack (ValueBack (TakesBack (monoid_of part.now)))) steps.items list.old.items earlier → list.new.items ≡ earlier }
+    ensures { (earlier : List (Val × Agg)) → StepsBackBy (monoid_of part.now) steps.items
+        list.old.items earlier → list.new.items ≡ earlier }
 {
     let mut steps = steps;
     while let Some(step) = steps.pop() {
@@ -100,7 +101,8 @@ pub fn take_back(
 // Takes one step of a map back. One that can't have been done here changes nothing.
 #[cycle(undo)]
 fn step_back(part: &Kind, alloc: Global, list: &mut Vec<(Val, Agg)>, step: (usize, Option<Undone>))
-    ensures { (earlier : List (Val × Agg)) → StepBack (ValueBack (TakesBack (monoid_of part.now))) step list.old.items earlier → list.new.items ≡ earlier }
+    ensures { (earlier : List (Val × Agg))
+        → StepBackBy (monoid_of part.now) step list.old.items earlier → list.new.items ≡ earlier }
 {
     let (at, undone) = step;
     if at >= list.len() {

@@ -1,3 +1,4 @@
+// Elements as texts.
 ghost use Rattle.std.specs.Prelude.{◌≡◌, ◌==◌, [], ◌++◌, if◌then◌else◌, OnOk, OnErr, codes, length, take, map};
 ghost use Rattle.std.specs.Fmt.{decimal};
 ghost use Rattle.hex.specs.Hex.{encode_lower};
@@ -70,7 +71,8 @@ fn comma_before(at: usize) -> &'static [u8]
 }
 
 fn push_key(alloc: Global, at: usize, key: &Val, out: &mut Vec<u8>) -> Result<(), NoMemory>
-    ensures ok { OnOk result (out.new.items ≡ out.old.items ++ (if at == 0 then [] else codes ",") ++ val_text key.now ++ codes "=") }
+    ensures ok { OnOk result (out.new.items
+        ≡ out.old.items ++ (if at == 0 then [] else codes ",") ++ val_text key.now ++ codes "=") }
     ensures front { take (length out.old.items) out.new.items ≡ out.old.items }
 {
     out.extend_from_slice(comma_before(at))?;
@@ -91,7 +93,8 @@ fn push_values(alloc: Global, values: &[Val], out: &mut Vec<u8>) -> Result<(), N
 }
 
 fn push_list(alloc: Global, values: &[Val], out: &mut Vec<u8>) -> Result<(), NoMemory>
-    ensures ok { OnOk result (out.new.items ≡ out.old.items ++ (codes "[" ++ joined (map val_text values.now) ++ codes "]")) }
+    ensures ok { OnOk result (out.new.items
+        ≡ out.old.items ++ (codes "[" ++ joined (map val_text values.now) ++ codes "]")) }
     ensures front { take (length out.old.items) out.new.items ≡ out.old.items }
 {
     out.push(b'[')?;
@@ -101,7 +104,8 @@ fn push_list(alloc: Global, values: &[Val], out: &mut Vec<u8>) -> Result<(), NoM
 }
 
 fn push_set(alloc: Global, values: &[Val], out: &mut Vec<u8>) -> Result<(), NoMemory>
-    ensures ok { OnOk result (out.new.items ≡ out.old.items ++ (codes "{" ++ joined (map val_text values.now) ++ codes "}")) }
+    ensures ok { OnOk result (out.new.items
+        ≡ out.old.items ++ (codes "{" ++ joined (map val_text values.now) ++ codes "}")) }
     ensures front { take (length out.old.items) out.new.items ≡ out.old.items }
 {
     out.push(b'{')?;
@@ -123,7 +127,8 @@ fn push_item(alloc: Global, item: &(i64, Text), out: &mut Vec<u8>) -> Result<(),
 }
 
 fn push_items(alloc: Global, items: &[(i64, Text)], out: &mut Vec<u8>) -> Result<(), NoMemory>
-    ensures ok { OnOk result (out.new.items ≡ out.old.items ++ (codes "[" ++ joined (map item_text items.now) ++ codes "]")) }
+    ensures ok { OnOk result (out.new.items
+        ≡ out.old.items ++ (codes "[" ++ joined (map item_text items.now) ++ codes "]")) }
     ensures front { take (length out.old.items) out.new.items ≡ out.old.items }
 {
     out.push(b'[')?;
@@ -136,7 +141,8 @@ fn push_items(alloc: Global, items: &[(i64, Text)], out: &mut Vec<u8>) -> Result
 }
 
 fn push_cells(alloc: Global, cells: &[u64], out: &mut Vec<u8>) -> Result<(), NoMemory>
-    ensures ok { OnOk result (out.new.items ≡ out.old.items ++ (codes "[" ++ joined (map decimal cells.now) ++ codes "]")) }
+    ensures ok { OnOk result (out.new.items
+        ≡ out.old.items ++ (codes "[" ++ joined (map decimal cells.now) ++ codes "]")) }
     ensures front { take (length out.old.items) out.new.items ≡ out.old.items }
 {
     out.push(b'[')?;

@@ -1,3 +1,4 @@
+// Sums of lists by a dictionary: from left to right, by halves, and in any order.
 ghost use Rattle.std.specs.Prelude.{◌≡◌, ◌<◌, ◌≤◌, List, length, take, drop, IsPermutation, IfOk, Some};
 ghost use Rattle.std.specs.List.{AllByRecursion, flat_map};
 ghost use Rattle.std.specs.Vec.Iter.{into_iter_items};
@@ -55,8 +56,10 @@ fn fold_next<M: Semigroup>(
     requires some { 0 < count }
     requires there { count ≤ length (into_iter_items items.old) }
     requires valid { AllByRecursion (M.valid m.now) (into_iter_items items.old) }
-    ensures sum { IfOk result (λ sum. Some sum ≡ sum_of (M.add m.now) (take count (into_iter_items items.old))) }
-    ensures rest { IfOk result (λ _. into_iter_items items.new ≡ drop count (into_iter_items items.old)) }
+    ensures sum { IfOk result (λ sum. Some sum
+        ≡ sum_of (M.add m.now) (take count (into_iter_items items.old))) }
+    ensures rest { IfOk result (λ _. into_iter_items items.new
+        ≡ drop count (into_iter_items items.old)) }
 {
     if count == 1 {
         return match items.next() {
@@ -77,8 +80,11 @@ pub fn regroup<M: Commuting>(
     lists: Vec<Vec<M::El>>,
 ) -> Result<Option<M::El>, NoMemory>
     requires { AllByRecursion (M.valid m.now) (flat_map (λ list. list.items) lists.items) }
-    ensures value { IfOk result (λ sum. sum ≡ sum_of (M.add m.now) (flat_map (λ list. list.items) lists.items)) }
-    ensures any_order { IfOk result (λ sum. (xs : List M.El) → IsPermutation (flat_map (λ list. list.items) lists.items) xs → sum ≡ sum_of (M.add m.now) xs) }
+    ensures value { IfOk result (λ sum. sum
+        ≡ sum_of (M.add m.now) (flat_map (λ list. list.items) lists.items)) }
+    ensures any_order { IfOk result (λ sum. (xs : List M.El)
+        → IsPermutation (flat_map (λ list. list.items) lists.items) xs
+        → sum ≡ sum_of (M.add m.now) xs) }
 {
     fold_lists(alloc, m, lists)
 }
@@ -89,7 +95,8 @@ fn fold_lists<M: Semigroup>(
     lists: Vec<Vec<M::El>>,
 ) -> Result<Option<M::El>, NoMemory>
     requires { AllByRecursion (M.valid m.now) (flat_map (λ list. list.items) lists.items) }
-    ensures { IfOk result (λ sum. sum ≡ sum_of (M.add m.now) (flat_map (λ list. list.items) lists.items)) }
+    ensures { IfOk result (λ sum. sum ≡ sum_of (M.add m.now)
+        (flat_map (λ list. list.items) lists.items)) }
 {
     let mut sum = None;
     for list in lists {

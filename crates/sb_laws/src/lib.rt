@@ -12,6 +12,3 @@ pub use items::Items;
 pub use key::Key;
 pub use semigroup::{Commuting, Monoid, NoMemory, Semigroup};
 pub use undo::Undo;
-
-#[cfg(test)]
-mod tests;

@@ -1,3 +1,4 @@
+// Dictionaries whose plus can be taken back.
 ghost use Rattle.std.specs.Prelude.{◌≡◌, IfOk, OnOk, OnErr};
 
 use crate::{NoMemory, Semigroup};
@@ -6,13 +7,13 @@ use std::alloc::Global;
 /// A dictionary whose plus can be taken back without memory.
 ///
 /// What adds two elements together, and may be refused after the first of them was changed, leaves all as it was by this,
-/// and copies nothing beforehand: the record is as large as what `plus` touched.
+/// and copies nothing beforehand: what is kept is as large as what `plus` touched.
 pub trait Undo: Semigroup {
     /// What takes one plus back.
-    type Record: Drop;
+    type Undone: Drop;
 
-    /// The record takes the later element back to the earlier one.
-    ghost takes_back: { Self → Self.Record → Self.El → Self.El → Type 0 };
+    /// What was kept takes the later element back to the earlier one.
+    ghost takes_back: { Self → Self.Undone → Self.El → Self.El → Type 0 };
 
     /// Does what `plus` does, and says how to take it back.
     fn plus_recorded(
@@ -20,7 +21,7 @@ pub trait Undo: Semigroup {
         alloc: Global,
         a: &mut Self::El,
         b: Self::El,
-    ) -> Result<Self::Record, NoMemory>
+    ) -> Result<Self::Undone, NoMemory>
         requires left { Self.valid self.now a.old }
         requires right { Self.valid self.now b }
         ensures ok { OnOk result (a.new ≡ Self.add self.now a.old b) }
@@ -28,6 +29,7 @@ pub trait Undo: Semigroup {
         ensures err { OnErr result (a.new ≡ a.old) };
 
     /// Takes a plus back. No memory is taken.
-    fn undo(&self, a: &mut Self::El, record: Self::Record)
-        ensures { (earlier : Self.El) → takes_back self.now «record» a.old earlier → a.new ≡ earlier };
+    fn undo(&self, a: &mut Self::El, undone: Self::Undone)
+        ensures { (earlier : Self.El) → takes_back self.now undone a.old earlier
+            → a.new ≡ earlier };
 }

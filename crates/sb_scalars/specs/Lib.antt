@@ -1,2 +1,2 @@
 pub mod Wrapping
-pub mod Extremes
+pub mod MinMax

@@ -1,3 +1,4 @@
+// Lists joined one behind the other.
 ghost use Rattle.std.specs.Prelude.{◌≡◌, ◌++◌, [], take, Ok};
 
 use sb_laws::{Items, Key, Monoid, NoMemory, Semigroup, Undo};
@@ -64,7 +65,7 @@ impl<T: Key> Monoid for ConcatM<T> {
 }
 
 impl<T: Key> Undo for ConcatM<T> {
-    type Record = usize;
+    type Undone = usize;
 
     ghost takes_back = { λ _ count later earlier. take count later ≡ earlier };
 

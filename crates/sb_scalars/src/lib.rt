@@ -2,14 +2,11 @@
 #![tactic(auto)]
 
 mod concat;
-mod extremes;
-mod order;
+mod first_last;
+mod min_max;
 mod sum;
 
 pub use concat::ConcatM;
-pub use extremes::{MaxM, MinM};
-pub use order::{FirstM, LastM};
+pub use first_last::{FirstM, LastM};
+pub use min_max::{MaxM, MinM};
 pub use sum::SumM;
-
-#[cfg(test)]
-mod tests;

@@ -1,3 +1,4 @@
+// Sums of i64 that wrap around.
 ghost use Rattle.std.specs.Prelude.{◌≡◌, Ok, pos, IsOk};
 ghost use Rattle.std.specs.Int.{w64, int_wrapping_add};
 
@@ -76,7 +77,7 @@ impl Commuting for SumM {
 }
 
 impl Undo for SumM {
-    type Record = i64;
+    type Undone = i64;
 
     ghost takes_back = { λ _ kept _ earlier. kept ≡ earlier };
 

@@ -1,4 +1,4 @@
--- Count-min sketches: rows of cells.
+-- Count-min sketches (Cormode and Muthukrishnan 2005): rows of cells.
 use Rattle.std.specs.Prelude.{ℕ, ◌*◌, ◌%◌, ◌^◌, ◌<◌, List, ◌∷◌}
 use Rattle.std.specs.List.{flat_map, range_with_len}
 use Rattle.sb_sketch.specs.Cells.{one_cell, AreCells}

@@ -1,4 +1,4 @@
--- The number that an item is hashed to.
+-- The number that an item is hashed to, by SHA-256 (FIPS 180-4).
 use Rattle.std.specs.Prelude.{ℕ, List, take}
 use Rattle.std.specs.Int.{w64, from_be_bytes}
 use Rattle.sha2.specs.Sha256.{sha256}

@@ -1,4 +1,4 @@
--- HyperLogLog: 2 ^ b registers.
+-- HyperLogLog (Flajolet and others 2007): 2 ^ b registers.
 use Rattle.std.specs.Prelude.{ℕ, ◌+◌, ◌-◌, ◌/◌, ◌%◌, ◌^◌, ◌≤◌, List}
 use lib.Count.{count_leading_zeros}
 use Rattle.sb_sketch.specs.Cells.{one_cell, AreCells}

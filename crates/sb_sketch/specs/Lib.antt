@@ -1,3 +1,4 @@
+pub mod Limits
 pub mod Cells
 pub mod CellLaws
 pub mod Hash

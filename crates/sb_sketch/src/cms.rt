@@ -1,6 +1,8 @@
+// Count-min sketches (Cormode and Muthukrishnan, Journal of Algorithms 55(1), 2005).
 ghost use Rattle.std.specs.Prelude.{◌≡◌, ◌<◌, ◌≤◌, ◌↔◌, ◌+◌, ◌*◌, Ok, length, IsOk, IsSome, IfSome, IfOk};
 ghost use Rattle.sb_sketch.specs.Cells.{counts_added, zeros};
 ghost use Rattle.sb_sketch.specs.Cms.{Shape, AreCounts, cell_of, counts_of};
+ghost use Rattle.sb_sketch.specs.Limits.{most_rows, most_cells};
 
 use crate::cells::cell_at;
 use crate::hash::word_in_row;
@@ -14,6 +16,7 @@ pub type Cells = Items<u64>;
 /// The most cells of a sketch, and the most rows.
 pub const MOST_CELLS: u32 = 4096;
 
+/// The most rows of a sketch.
 pub const MOST_ROWS: u32 = 16;
 
 /// Count-min sketches added cell by cell, wrapping at 2^64; the zero has all cells 0. Contracts see the shape.
@@ -38,7 +41,7 @@ impl CmsM {
     pub fn new(d: u32, w: u32) -> Option<CmsM>
         ensures rows { IfSome result (λ m. m.rows ≡ d) }
         ensures width { IfSome result (λ m. m.width ≡ w) }
-        ensures within { IsSome result ↔ ((0 < d) × (d ≤ 16) × (0 < w) × (d * w ≤ 4096)) }
+        ensures within { IsSome result ↔ ((0 < d) × (d ≤ most_rows) × (0 < w) × (d * w ≤ most_cells)) }
     {
         if d == 0 || d > MOST_ROWS || w == 0 || w > MOST_CELLS / d {
             return None;
@@ -70,7 +73,8 @@ impl CmsM {
     // Counts an item in each row.
     fn count_item(&self, counts: &mut Vec<u64>, item: &[u8])
         requires { AreCounts self.now counts.old.items }
-        ensures counted { counts.new.items ≡ counts_added counts.old.items (counts_of self.now item.now) }
+        ensures counted { counts.new.items ≡ counts_added counts.old.items
+            (counts_of self.now item.now) }
         ensures valid { AreCounts self.now counts.new.items }
     {
         for row in 0..self.rows {
@@ -175,11 +179,11 @@ impl Commuting for CmsM {
 }
 
 impl Undo for CmsM {
-    type Record = Cells;
+    type Undone = Cells;
 
     ghost takes_back = { λ _ kept _ earlier. kept ≡ earlier };
 
-    // The sums are made in the room of the right, so that the left is the record.
+    // The sums are made in the room of the right, so that the left is what takes the plus back.
     fn plus_recorded(&self, _alloc: Global, a: &mut Cells, b: Cells) -> Result<Cells, NoMemory>
         requires left { AreCounts self.now a.old }
         requires right { AreCounts self.now b }

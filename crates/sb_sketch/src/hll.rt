@@ -1,7 +1,9 @@
+// HyperLogLog (Flajolet, Fusy, Gandouet and Meunier, AofA 2007).
 ghost use Rattle.std.specs.Prelude.{◌≡◌, ◌<◌, ◌≤◌, ◌↔◌, ◌+◌, ◌-◌, ◌%◌, ◌^◌, ℕ, Ok, length, max, IsOk, IsSome, IfSome, IfOk};
 ghost use lib.Count.{count_leading_zeros};
 ghost use Rattle.sb_sketch.specs.Cells.{greatest_of_both, zeros};
 ghost use Rattle.sb_sketch.specs.Hll.{AreRegisters, register_of, position_of, registers_of};
+ghost use Rattle.sb_sketch.specs.Limits.{least_bits, most_bits};
 
 use crate::cells::cell_at;
 use crate::hash::word_of;
@@ -24,7 +26,7 @@ impl Model for HllM {
 
     ghost view = { λ m. m.bits };
 
-    ghost invariant = { λ m. (4 ≤ m.bits) × (m.bits ≤ 12) };
+    ghost invariant = { λ m. (least_bits ≤ m.bits) × (m.bits ≤ most_bits) };
 
     ghost inverse = { λ b. record { bits = b } };
 }
@@ -33,7 +35,7 @@ impl HllM {
     /// The dictionary of 2 to the power `b` registers, and none exactly where `b` isn't 4 to 12.
     pub fn new(b: u32) -> Option<HllM>
         ensures number { IfSome result (λ m. m ≡ b) }
-        ensures within { IsSome result ↔ ((4 ≤ b) × (b ≤ 12)) }
+        ensures within { IsSome result ↔ ((least_bits ≤ b) × (b ≤ most_bits)) }
     {
         if b < 4 || b > 12 {
             return None;
@@ -44,7 +46,7 @@ impl HllM {
     /// The number b.
     pub fn bits(&self) -> u8
         ensures number { result ≡ self.now }
-        ensures within { (4 ≤ result) × (result ≤ 12) }
+        ensures within { (least_bits ≤ result) × (result ≤ most_bits) }
     {
         self.bits
     }
@@ -52,7 +54,8 @@ impl HllM {
     // Raises the item's register.
     fn raise(&self, registers: &mut Vec<u8>, item: &[u8])
         requires { AreRegisters self.now registers.old.items }
-        ensures raised { registers.new.items ≡ greatest_of_both registers.old.items (registers_of self.now item.now) }
+        ensures raised { registers.new.items ≡ greatest_of_both registers.old.items
+            (registers_of self.now item.now) }
         ensures valid { AreRegisters self.now registers.new.items }
     {
         let word = word_of(item);
@@ -65,7 +68,8 @@ impl HllM {
     /// Adds one item in place: `plus` of what `one` gives, without making it.
     pub fn add_item(&self, registers: &mut Registers, item: &[u8])
         requires { AreRegisters self.now registers.old }
-        ensures raised { registers.new ≡ greatest_of_both registers.old (registers_of self.now item.now) }
+        ensures raised { registers.new ≡ greatest_of_both registers.old
+            (registers_of self.now item.now) }
         ensures valid { AreRegisters self.now registers.new }
     {
         let mut raised = registers.take();
@@ -92,7 +96,7 @@ fn greater(a: u8, b: u8) -> u8
 
 // The place, from 1, of the first one bit of the word after its top bits.
 fn first_one(word: u64, bits: u32) -> u8
-    requires { (4 ≤ bits) × (bits ≤ 12) }
+    requires { (least_bits ≤ bits) × (bits ≤ most_bits) }
     ensures { result ≡ count_leading_zeros (64 - bits) (word % 2 ^ (64 - bits)) + 1 }
 {
     let rest = word & ((1 << (64 - bits)) - 1);
@@ -169,11 +173,11 @@ impl Commuting for HllM {
 }
 
 impl Undo for HllM {
-    type Record = Registers;
+    type Undone = Registers;
 
     ghost takes_back = { λ _ kept _ earlier. kept ≡ earlier };
 
-    // The greater ones are put in the room of the right, so that the left is the record.
+    // The greater ones are put in the room of the right, so that the left is what takes the plus back.
     fn plus_recorded(
         &self,
         _alloc: Global,

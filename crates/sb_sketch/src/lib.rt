@@ -8,6 +8,3 @@ mod hll;
 
 pub use cms::{Cells, CmsM};
 pub use hll::{HllM, Registers};
-
-#[cfg(test)]
-mod tests;

@@ -43,7 +43,7 @@ use Rattle.sb_syntax.specs.declared.operators.Sign.{Sign}
 use Rattle.sb_syntax.specs.Reading.{Input, Budget, Outcome, Parser, and_then, ◌>>=◌, ◌>>◌, ◌<$>◌, pure, spend, taken_by, take_token, take_with}
 use Rattle.sb_syntax.specs.Reading.{refuse, refusal, refusal_at, too_deep, ahead, sees, sees_word, expect, expect_word}
 use Rattle.sb_syntax.specs.Reading as p
-use Rattle.sb_syntax.specs.Kinds as kd
+use Rattle.sb_syntax.specs.Types as kd
 use Rattle.sb_syntax.specs.Expressions as x
 use Rattle.sb_syntax.specs.Expressions.{is_call}
 use Rattle.sb_syntax.specs.Statements as st

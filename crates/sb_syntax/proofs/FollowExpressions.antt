@@ -38,8 +38,8 @@ use Rattle.sb_syntax.proofs.Follow.{Under, bind, from, gives, misfits, ends_here
 use Rattle.sb_syntax.proofs.Follow.{follows_else_word, follows_open_paren, follows_close_paren, follows_comma, follows_positive}
 use Rattle.sb_syntax.specs.Expressions as x
 use Rattle.sb_syntax.specs.Expressions.{is_call}
-use Rattle.sb_syntax.specs.Kinds as kd
-use Rattle.sb_syntax.proofs.FollowKinds.{follows_a_type}
+use Rattle.sb_syntax.specs.Types as kd
+use Rattle.sb_syntax.proofs.FollowTypes.{follows_a_type}
 
 module _ (R : Type 0) where
   at_post_step : (o : ℕ) (u : Token) (places : List (ℕ × Token)) (b0 : Budget) (s : List Rule) (make : Forest (post_step ∷ s) → R) → Under R

@@ -23,10 +23,10 @@ use Rattle.sb_syntax.specs.Reading as p
 use Rattle.sb_syntax.proofs.Follow.{Under, bind, from, gives, misfits, ends_here, deep, takes, Follows, by_next, at_input, follows_from_word}
 use Rattle.sb_syntax.proofs.Follow.{follows_open_paren, follows_close_paren, follows_comma, follows_colon, follows_arrow, follows_assign}
 use Rattle.sb_syntax.proofs.Follow.{follows_number, follows_positive, follows_a_name}
-use Rattle.sb_syntax.specs.Kinds as kd
+use Rattle.sb_syntax.specs.Types as kd
 use Rattle.sb_syntax.specs.Expressions as ex
 use Rattle.sb_syntax.specs.Statements as x
-use Rattle.sb_syntax.proofs.FollowKinds.{follows_scalar, follows_mono}
+use Rattle.sb_syntax.proofs.FollowTypes.{follows_scalar, follows_mono}
 use Rattle.sb_syntax.proofs.FollowExpressions.{follows_expr}
 
 module _ (R : Type 0) where

@@ -3,7 +3,7 @@ pub mod Complete
 pub mod Depth
 pub mod Follow
 pub mod FollowExpressions
-pub mod FollowKinds
+pub mod FollowTypes
 pub mod FollowStatements
 pub mod Gives
 pub mod RoundTrip

@@ -31,7 +31,7 @@ use Rattle.sb_grammar.specs.declared.expressions.PostStep.TheVariants as steps
 use Rattle.sb_grammar.specs.declared.expressions.Atom.{Atom}
 use Rattle.sb_grammar.specs.declared.expressions.Atom.TheVariants as atoms
 use Rattle.sb_syntax.specs.Reading.{Parser, ◌>>=◌, ◌>>◌, ◌<$>◌, pure, refuse, too_deep, ahead, take_token, take_with, sees, sees_word, expect, expect_word, positive}
-use Rattle.sb_syntax.specs.Kinds.{a_type}
+use Rattle.sb_syntax.specs.Types.{a_type}
 use Rattle.sb_syntax.specs.declared.operators.Sign.{Sign}
 use Rattle.sb_syntax.specs.declared.operators.Sign.TheVariants.{Plus, Minus}
 use Rattle.sb_syntax.specs.declared.operators.Factor.{Factor}

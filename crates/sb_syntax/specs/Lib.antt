@@ -1,7 +1,7 @@
 pub mod Answer
 pub mod Cursor
 pub mod Expressions
-pub mod Kinds
+pub mod Types
 pub mod Nests
 pub mod Programs
 pub mod Reading

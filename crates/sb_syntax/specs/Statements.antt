@@ -13,7 +13,7 @@ use Rattle.sb_grammar.specs.declared.programs.Stage.TheVariants as staged
 use Rattle.sb_grammar.specs.declared.programs.MonoTree.{MonoTree}
 use Rattle.sb_syntax.specs.Reading.{Parser, ◌>>=◌, ◌>>◌, ◌<$>◌, pure, refuse, too_deep, take_token, sees, sees_word, expect, expect_word, number}
 use Rattle.sb_syntax.specs.Reading.{positive, a_name, a_word}
-use Rattle.sb_syntax.specs.Kinds.{scalar, mono}
+use Rattle.sb_syntax.specs.Types.{scalar, mono}
 use Rattle.sb_syntax.specs.Expressions.{expr}
 
 -- as many tokens as a statement may have, so that no list is longer and nothing is open in itself more often

@@ -7,8 +7,8 @@ ghost use Rattle.sb_syntax.specs.Nests.{Nests};
 
 use crate::cursor::Cursor;
 use crate::fault::Fault;
-use crate::kinds::type_tree;
 use crate::rules::Rules;
+use crate::types::type_tree;
 use sb_grammar::{Atom, Expr, TypeTree};
 use sb_tokens::{Keyword, Symbol, Token};
 use sqlite_items::{Boxed, Items};
@@ -19,7 +19,8 @@ impl<F: Fn(Global, &mut Cursor<'_>, usize) -> Result<Expr, Fault>> Rules<F> {
     #[tactic(auto, unfolding(crate::specs::Expressions::atom))]
     pub fn atom(&self, tokens: &mut Cursor<'_>) -> Result<Atom, Fault>
         requires { Nests self.now.depth (F.pre self.now.expr) (F.post self.now.expr) }
-        ensures { Reads (spec.atom (spec.expr self.now.depth) self.now.depth tokens.old) result tokens.new }
+        ensures { Reads (spec.atom (spec.expr self.now.depth) self.now.depth tokens.old) result
+            tokens.new }
     {
         match tokens.peek() {
             Some(Token::Int(number)) => {
@@ -48,7 +49,8 @@ impl<F: Fn(Global, &mut Cursor<'_>, usize) -> Result<Expr, Fault>> Rules<F> {
     #[tactic(auto, unfolding(crate::specs::Expressions::call))]
     fn call(&self, tokens: &mut Cursor<'_>, word: Keyword) -> Result<Atom, Fault>
         requires { Nests self.now.depth (F.pre self.now.expr) (F.post self.now.expr) }
-        ensures { Reads (spec.call (spec.expr self.now.depth) self.now.depth word tokens.old) result tokens.new }
+        ensures { Reads (spec.call (spec.expr self.now.depth) self.now.depth word tokens.old) result
+            tokens.new }
     {
         if !is_call(word) {
             return Err(tokens.refuse());
@@ -59,7 +61,8 @@ impl<F: Fn(Global, &mut Cursor<'_>, usize) -> Result<Expr, Fault>> Rules<F> {
 
     fn behind_word(&self, tokens: &mut Cursor<'_>, word: Keyword) -> Result<Atom, Fault>
         requires { Nests self.now.depth (F.pre self.now.expr) (F.post self.now.expr) }
-        ensures { Reads (spec.call_by (spec.expr self.now.depth) self.now.depth word tokens.old) result tokens.new }
+        ensures { Reads (spec.call_by (spec.expr self.now.depth) self.now.depth word tokens.old)
+            result tokens.new }
     {
         match word {
             Keyword::True => Ok(Atom::True),
@@ -88,7 +91,8 @@ impl<F: Fn(Global, &mut Cursor<'_>, usize) -> Result<Expr, Fault>> Rules<F> {
     #[tactic(auto, unfolding(crate::specs::Expressions::argument))]
     fn argument(&self, tokens: &mut Cursor<'_>) -> Result<Boxed<Expr>, Fault>
         requires { Nests self.now.depth (F.pre self.now.expr) (F.post self.now.expr) }
-        ensures { Reads (spec.argument (spec.expr self.now.depth) self.now.depth tokens.old) result tokens.new }
+        ensures { Reads (spec.argument (spec.expr self.now.depth) self.now.depth tokens.old) result
+            tokens.new }
     {
         tokens.expect(Symbol::OpenParen)?;
         let inner = Boxed::new(self.alloc, self.expr(tokens)?)?;
@@ -100,7 +104,8 @@ impl<F: Fn(Global, &mut Cursor<'_>, usize) -> Result<Expr, Fault>> Rules<F> {
     #[tactic(auto, unfolding(crate::specs::Expressions::two_arguments))]
     fn two_arguments(&self, tokens: &mut Cursor<'_>) -> Result<(Boxed<Expr>, Boxed<Expr>), Fault>
         requires { Nests self.now.depth (F.pre self.now.expr) (F.post self.now.expr) }
-        ensures { Reads (spec.two_arguments (spec.expr self.now.depth) self.now.depth tokens.old) result tokens.new }
+        ensures { Reads (spec.two_arguments (spec.expr self.now.depth) self.now.depth tokens.old)
+            result tokens.new }
     {
         tokens.expect(Symbol::OpenParen)?;
         let first = Boxed::new(self.alloc, self.expr(tokens)?)?;
@@ -113,7 +118,8 @@ impl<F: Fn(Global, &mut Cursor<'_>, usize) -> Result<Expr, Fault>> Rules<F> {
     // "(" type ")"
     #[tactic(auto, unfolding(crate::specs::Expressions::type_argument))]
     fn type_argument(&self, tokens: &mut Cursor<'_>) -> Result<TypeTree, Fault>
-        ensures { Reads (spec.type_argument (spec.expr self.now.depth) self.now.depth tokens.old) result tokens.new }
+        ensures { Reads (spec.type_argument (spec.expr self.now.depth) self.now.depth tokens.old)
+            result tokens.new }
     {
         tokens.expect(Symbol::OpenParen)?;
         let inner = type_tree(self.alloc, tokens, self.depth)?;
@@ -124,7 +130,8 @@ impl<F: Fn(Global, &mut Cursor<'_>, usize) -> Result<Expr, Fault>> Rules<F> {
     #[tactic(auto, unfolding(crate::specs::Expressions::words))]
     fn words(&self, tokens: &mut Cursor<'_>) -> Result<Atom, Fault>
         requires { Nests self.now.depth (F.pre self.now.expr) (F.post self.now.expr) }
-        ensures { Reads (spec.words (spec.expr self.now.depth) self.now.depth tokens.old) result tokens.new }
+        ensures { Reads (spec.words (spec.expr self.now.depth) self.now.depth tokens.old) result
+            tokens.new }
     {
         tokens.expect(Symbol::OpenParen)?;
         let text = Boxed::new(self.alloc, self.expr(tokens)?)?;
@@ -138,7 +145,8 @@ impl<F: Fn(Global, &mut Cursor<'_>, usize) -> Result<Expr, Fault>> Rules<F> {
     #[tactic(auto, unfolding(crate::specs::Expressions::group))]
     fn group(&self, tokens: &mut Cursor<'_>) -> Result<Atom, Fault>
         requires { Nests self.now.depth (F.pre self.now.expr) (F.post self.now.expr) }
-        ensures { Reads (spec.group (spec.expr self.now.depth) self.now.depth tokens.old) result tokens.new }
+        ensures { Reads (spec.group (spec.expr self.now.depth) self.now.depth tokens.old) result
+            tokens.new }
     {
         let first = Boxed::new(self.alloc, self.expr(tokens)?)?;
         if tokens.sees(Symbol::Comma) {
@@ -155,7 +163,8 @@ impl<F: Fn(Global, &mut Cursor<'_>, usize) -> Result<Expr, Fault>> Rules<F> {
     #[tactic(auto, unfolding(crate::specs::Expressions::list))]
     fn list(&self, tokens: &mut Cursor<'_>) -> Result<Atom, Fault>
         requires { Nests self.now.depth (F.pre self.now.expr) (F.post self.now.expr) }
-        ensures { Reads (spec.list (spec.expr self.now.depth) self.now.depth tokens.old) result tokens.new }
+        ensures { Reads (spec.list (spec.expr self.now.depth) self.now.depth tokens.old) result
+            tokens.new }
     {
         let mut found = Items::new(self.alloc);
         found.push(self.expr(tokens)?)?;
@@ -170,7 +179,8 @@ impl<F: Fn(Global, &mut Cursor<'_>, usize) -> Result<Expr, Fault>> Rules<F> {
         mut found: Items<Expr>,
     ) -> Result<Items<Expr>, Fault>
         requires { Nests self.now.depth (F.pre self.now.expr) (F.post self.now.expr) }
-        ensures { Reads (spec.list_end (spec.expr self.now.depth) self.now.depth turns found tokens.old) result tokens.new }
+        ensures { Reads (spec.list_end (spec.expr self.now.depth) self.now.depth turns found
+            tokens.old) result tokens.new }
     {
         if turns == 0 {
             return Err(Fault::Deep);

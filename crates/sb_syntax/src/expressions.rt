@@ -29,7 +29,8 @@ impl<F: Fn(Global, &mut Cursor<'_>, usize) -> Result<Expr, Fault>> Rules<F> {
     #[tactic(auto, unfolding(crate::specs::Expressions::level))]
     pub fn level(&self, tokens: &mut Cursor<'_>) -> Result<Expr, Fault>
         requires { Nests self.now.depth (F.pre self.now.expr) (F.post self.now.expr) }
-        ensures { Reads (spec.level (spec.expr self.now.depth) self.now.depth tokens.old) result tokens.new }
+        ensures { Reads (spec.level (spec.expr self.now.depth) self.now.depth tokens.old) result
+            tokens.new }
     {
         if tokens.sees_word(Keyword::If) {
             tokens.take()?;
@@ -42,7 +43,8 @@ impl<F: Fn(Global, &mut Cursor<'_>, usize) -> Result<Expr, Fault>> Rules<F> {
     #[tactic(auto, unfolding(crate::specs::Expressions::choice))]
     fn choice(&self, tokens: &mut Cursor<'_>) -> Result<Expr, Fault>
         requires { Nests self.now.depth (F.pre self.now.expr) (F.post self.now.expr) }
-        ensures { Reads (spec.choice (spec.expr self.now.depth) self.now.depth tokens.old) result tokens.new }
+        ensures { Reads (spec.choice (spec.expr self.now.depth) self.now.depth tokens.old) result
+            tokens.new }
     {
         let test = Boxed::new(self.alloc, self.expr(tokens)?)?;
         tokens.expect_word(Keyword::Then)?;
@@ -55,7 +57,8 @@ impl<F: Fn(Global, &mut Cursor<'_>, usize) -> Result<Expr, Fault>> Rules<F> {
     #[tactic(auto, unfolding(crate::specs::Expressions::disj))]
     fn disj(&self, tokens: &mut Cursor<'_>) -> Result<Disj, Fault>
         requires { Nests self.now.depth (F.pre self.now.expr) (F.post self.now.expr) }
-        ensures { Reads (spec.disj (spec.expr self.now.depth) self.now.depth tokens.old) result tokens.new }
+        ensures { Reads (spec.disj (spec.expr self.now.depth) self.now.depth tokens.old) result
+            tokens.new }
     {
         let first = self.conj(tokens)?;
         let rest = self.disj_rests(tokens, self.depth, Items::new(self.alloc))?;
@@ -70,7 +73,8 @@ impl<F: Fn(Global, &mut Cursor<'_>, usize) -> Result<Expr, Fault>> Rules<F> {
         mut found: Items<Conj>,
     ) -> Result<Items<Conj>, Fault>
         requires { Nests self.now.depth (F.pre self.now.expr) (F.post self.now.expr) }
-        ensures { Reads (spec.disj_rests (spec.expr self.now.depth) self.now.depth turns found tokens.old) result tokens.new }
+        ensures { Reads (spec.disj_rests (spec.expr self.now.depth) self.now.depth turns found
+            tokens.old) result tokens.new }
     {
         if turns == 0 {
             return Err(Fault::Deep);
@@ -86,7 +90,8 @@ impl<F: Fn(Global, &mut Cursor<'_>, usize) -> Result<Expr, Fault>> Rules<F> {
     #[tactic(auto, unfolding(crate::specs::Expressions::conj))]
     fn conj(&self, tokens: &mut Cursor<'_>) -> Result<Conj, Fault>
         requires { Nests self.now.depth (F.pre self.now.expr) (F.post self.now.expr) }
-        ensures { Reads (spec.conj (spec.expr self.now.depth) self.now.depth tokens.old) result tokens.new }
+        ensures { Reads (spec.conj (spec.expr self.now.depth) self.now.depth tokens.old) result
+            tokens.new }
     {
         let first = self.neg(tokens, self.depth)?;
         let rest = self.conj_rests(tokens, self.depth, Items::new(self.alloc))?;
@@ -101,7 +106,8 @@ impl<F: Fn(Global, &mut Cursor<'_>, usize) -> Result<Expr, Fault>> Rules<F> {
         mut found: Items<Neg>,
     ) -> Result<Items<Neg>, Fault>
         requires { Nests self.now.depth (F.pre self.now.expr) (F.post self.now.expr) }
-        ensures { Reads (spec.conj_rests (spec.expr self.now.depth) self.now.depth turns found tokens.old) result tokens.new }
+        ensures { Reads (spec.conj_rests (spec.expr self.now.depth) self.now.depth turns found
+            tokens.old) result tokens.new }
     {
         if turns == 0 {
             return Err(Fault::Deep);
@@ -117,7 +123,8 @@ impl<F: Fn(Global, &mut Cursor<'_>, usize) -> Result<Expr, Fault>> Rules<F> {
     #[tactic(auto, unfolding(crate::specs::Expressions::neg))]
     fn neg(&self, tokens: &mut Cursor<'_>, turns: usize) -> Result<Neg, Fault>
         requires { Nests self.now.depth (F.pre self.now.expr) (F.post self.now.expr) }
-        ensures { Reads (spec.neg (spec.expr self.now.depth) self.now.depth turns tokens.old) result tokens.new }
+        ensures { Reads (spec.neg (spec.expr self.now.depth) self.now.depth turns tokens.old) result
+            tokens.new }
     {
         if turns == 0 {
             return Err(Fault::Deep);
@@ -133,7 +140,8 @@ impl<F: Fn(Global, &mut Cursor<'_>, usize) -> Result<Expr, Fault>> Rules<F> {
     #[tactic(auto, unfolding(crate::specs::Expressions::cmp))]
     fn cmp(&self, tokens: &mut Cursor<'_>) -> Result<Cmp, Fault>
         requires { Nests self.now.depth (F.pre self.now.expr) (F.post self.now.expr) }
-        ensures { Reads (spec.cmp (spec.expr self.now.depth) self.now.depth tokens.old) result tokens.new }
+        ensures { Reads (spec.cmp (spec.expr self.now.depth) self.now.depth tokens.old) result
+            tokens.new }
     {
         let left = self.add(tokens)?;
         let Some(operator) = comparison_in(tokens.peek()) else {
@@ -146,7 +154,8 @@ impl<F: Fn(Global, &mut Cursor<'_>, usize) -> Result<Expr, Fault>> Rules<F> {
     #[tactic(auto, unfolding(crate::specs::Expressions::add))]
     fn add(&self, tokens: &mut Cursor<'_>) -> Result<Add, Fault>
         requires { Nests self.now.depth (F.pre self.now.expr) (F.post self.now.expr) }
-        ensures { Reads (spec.add (spec.expr self.now.depth) self.now.depth tokens.old) result tokens.new }
+        ensures { Reads (spec.add (spec.expr self.now.depth) self.now.depth tokens.old) result
+            tokens.new }
     {
         let first = self.prod(tokens)?;
         let rest = self.add_rests(tokens, self.depth, Items::new(self.alloc))?;
@@ -161,7 +170,8 @@ impl<F: Fn(Global, &mut Cursor<'_>, usize) -> Result<Expr, Fault>> Rules<F> {
         mut found: Items<AddRest>,
     ) -> Result<Items<AddRest>, Fault>
         requires { Nests self.now.depth (F.pre self.now.expr) (F.post self.now.expr) }
-        ensures { Reads (spec.add_rests (spec.expr self.now.depth) self.now.depth turns found tokens.old) result tokens.new }
+        ensures { Reads (spec.add_rests (spec.expr self.now.depth) self.now.depth turns found
+            tokens.old) result tokens.new }
     {
         if turns == 0 {
             return Err(Fault::Deep);
@@ -177,7 +187,8 @@ impl<F: Fn(Global, &mut Cursor<'_>, usize) -> Result<Expr, Fault>> Rules<F> {
     #[tactic(auto, unfolding(crate::specs::Expressions::prod))]
     fn prod(&self, tokens: &mut Cursor<'_>) -> Result<Prod, Fault>
         requires { Nests self.now.depth (F.pre self.now.expr) (F.post self.now.expr) }
-        ensures { Reads (spec.prod (spec.expr self.now.depth) self.now.depth tokens.old) result tokens.new }
+        ensures { Reads (spec.prod (spec.expr self.now.depth) self.now.depth tokens.old) result
+            tokens.new }
     {
         let first = self.unary(tokens, self.depth)?;
         let rest = self.prod_rests(tokens, self.depth, Items::new(self.alloc))?;
@@ -192,7 +203,8 @@ impl<F: Fn(Global, &mut Cursor<'_>, usize) -> Result<Expr, Fault>> Rules<F> {
         mut found: Items<ProdRest>,
     ) -> Result<Items<ProdRest>, Fault>
         requires { Nests self.now.depth (F.pre self.now.expr) (F.post self.now.expr) }
-        ensures { Reads (spec.prod_rests (spec.expr self.now.depth) self.now.depth turns found tokens.old) result tokens.new }
+        ensures { Reads (spec.prod_rests (spec.expr self.now.depth) self.now.depth turns found
+            tokens.old) result tokens.new }
     {
         if turns == 0 {
             return Err(Fault::Deep);
@@ -208,7 +220,8 @@ impl<F: Fn(Global, &mut Cursor<'_>, usize) -> Result<Expr, Fault>> Rules<F> {
     // Behind the operator.
     fn factor(&self, tokens: &mut Cursor<'_>, by: Factor) -> Result<ProdRest, Fault>
         requires { Nests self.now.depth (F.pre self.now.expr) (F.post self.now.expr) }
-        ensures { Reads (spec.factor (spec.expr self.now.depth) self.now.depth by tokens.old) result tokens.new }
+        ensures { Reads (spec.factor (spec.expr self.now.depth) self.now.depth by tokens.old) result
+            tokens.new }
     {
         match by {
             Factor::Times => Ok(ProdRest::Times(self.unary(tokens, self.depth)?)),
@@ -220,7 +233,8 @@ impl<F: Fn(Global, &mut Cursor<'_>, usize) -> Result<Expr, Fault>> Rules<F> {
     #[tactic(auto, unfolding(crate::specs::Expressions::unary))]
     fn unary(&self, tokens: &mut Cursor<'_>, turns: usize) -> Result<Unary, Fault>
         requires { Nests self.now.depth (F.pre self.now.expr) (F.post self.now.expr) }
-        ensures { Reads (spec.unary (spec.expr self.now.depth) self.now.depth turns tokens.old) result tokens.new }
+        ensures { Reads (spec.unary (spec.expr self.now.depth) self.now.depth turns tokens.old)
+            result tokens.new }
     {
         if turns == 0 {
             return Err(Fault::Deep);
@@ -236,7 +250,8 @@ impl<F: Fn(Global, &mut Cursor<'_>, usize) -> Result<Expr, Fault>> Rules<F> {
     #[tactic(auto, unfolding(crate::specs::Expressions::post))]
     fn post(&self, tokens: &mut Cursor<'_>) -> Result<Post, Fault>
         requires { Nests self.now.depth (F.pre self.now.expr) (F.post self.now.expr) }
-        ensures { Reads (spec.post (spec.expr self.now.depth) self.now.depth tokens.old) result tokens.new }
+        ensures { Reads (spec.post (spec.expr self.now.depth) self.now.depth tokens.old) result
+            tokens.new }
     {
         let atom = self.atom(tokens)?;
         let steps = post_steps(self.alloc, tokens, self.depth, Items::new(self.alloc))?;

@@ -5,7 +5,6 @@ mod atoms;
 mod cursor;
 mod expressions;
 mod fault;
-mod kinds;
 mod laws;
 mod operators;
 mod parsing;
@@ -13,10 +12,9 @@ mod rules;
 mod statements;
 mod steps;
 mod streams;
-#[cfg(test)]
-mod tests;
+mod types;
 
-pub use laws::{depth_suffices, printed_programs_are_read};
+pub use laws::{printed_programs_are_read, texts_are_judged};
 pub use parsing::{SyntaxError, parse};
 pub use sb_grammar::{
     Add, AddRest, Atom, Cmp, CmpOp, Code, Conj, Disj, Expr, FieldTree, Head, Many, MonoTree, Neg,

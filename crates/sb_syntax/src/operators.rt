@@ -1,3 +1,4 @@
+// The operators between operands.
 ghost use Rattle.std.specs.Prelude.{◌≡◌, option_map};
 ghost use Rattle.sb_tokens.specs.View.{token_view};
 ghost use Rattle.sb_syntax.specs.Expressions as spec;
@@ -5,12 +6,14 @@ ghost use Rattle.sb_syntax.specs.Expressions as spec;
 use sb_grammar::CmpOp;
 use sb_tokens::{Symbol, Token};
 
+/// What stands between the summands of a sum.
 #[derive(Clone, Copy)]
 pub enum Sign {
     Plus,
     Minus,
 }
 
+/// What stands between the factors of a product.
 #[derive(Clone, Copy)]
 pub enum Factor {
     Times,

@@ -1,3 +1,4 @@
+// The program of a text, or its first wrong token.
 ghost use Rattle.std.specs.Prelude.{◌≡◌, ◌⊎◌, ℕ, Err, IfOk, IfErr};
 ghost use Rattle.sb_grammar.specs.Program.{IsTextOf, FirstFault};
 ghost use Rattle.sb_grammar.specs.declared.code.Code.{Code};
@@ -12,15 +13,18 @@ use crate::statements::{batch, statement};
 use sb_grammar::{Code, Program, Statement};
 use sqlite_items::Items;
 use std::alloc::Global;
+use thiserror::Error;
 
 /// Statements behind the batch head, which is statement 1.
 const MAX_FURTHER: usize = 255;
 
 /// Why a text gives no program.
-#[derive(Clone, Copy, Debug, PartialEq, Eq)]
+#[derive(Clone, Copy, Debug, PartialEq, Eq, Error)]
 pub enum SyntaxError {
     /// The first wrong token, or the text's end.
+    #[error("{code:?} at byte {offset}")]
     At { offset: u64, code: Code },
+    #[error("out of memory")]
     NoMemory,
 }
 
@@ -31,10 +35,12 @@ pub fn parse(alloc: Global, bytes: &[u8]) -> Result<Program, SyntaxError>
     ensures at { IfErr result (Explains bytes.now) }
 
     // A program's text is answered by the program, unless memory fails.
-    ensures every { (p : Program) → IsTextOf p bytes.now → IfOk result (λ q. q ≡ p) × IfErr result (λ e. e ≡ NoMemory) }
+    ensures every { (p : Program) → IsTextOf p bytes.now
+        → IfOk result (λ q. q ≡ p) × IfErr result (λ e. e ≡ NoMemory) }
 
     // The first wrong token of a text is answered, unless memory fails.
-    ensures fault { (offset : ℕ) (why : Code) → FirstFault bytes.now offset why → (result ≡ Err (At offset why)) ⊎ (result ≡ Err NoMemory) }
+    ensures fault { (offset : ℕ) (why : Code) → FirstFault bytes.now offset why
+        → (result ≡ Err (At offset why)) ⊎ (result ≡ Err NoMemory) }
 {
     let mut tokens = Cursor::new(bytes);
     match program(alloc, &mut tokens) {

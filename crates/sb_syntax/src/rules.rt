@@ -9,6 +9,7 @@ use crate::fault::Fault;
 use sb_grammar::Expr;
 use std::alloc::Global;
 
+/// The rules, with the parser of the expressions inside them.
 #[derive(Clone, Copy)]
 pub struct Rules<F> {
     pub alloc: Global,

@@ -5,8 +5,8 @@ ghost use Rattle.sb_syntax.specs.Statements as spec;
 
 use crate::cursor::Cursor;
 use crate::fault::Fault;
-use crate::kinds::scalar;
 use crate::streams::{head, store_stages, stream};
+use crate::types::scalar;
 use sb_grammar::{FieldTree, Statement, Stream};
 use sb_tokens::{Keyword, Symbol};
 use sqlite_items::Items;

@@ -5,9 +5,9 @@ ghost use Rattle.sb_syntax.specs.Statements as spec;
 
 use crate::cursor::Cursor;
 use crate::fault::Fault;
-use crate::kinds::mono_tree;
 use crate::rules::expr;
 use crate::statements::MAX_TOKENS;
+use crate::types::mono_tree;
 use sb_grammar::{Head, MonoTree, Stage, Stream};
 use sb_tokens::{Keyword, Symbol};
 use sqlite_items::{Boxed, Items};

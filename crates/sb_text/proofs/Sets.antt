@@ -145,12 +145,26 @@ put-last numbers n rising above =
     (λ k h. let le = rising_at numbers rising k (length numbers - 1) (omega arith) (omega arith) in omega (arith, le, above))
     (λ k h within. absurd (omega arith))
 
+-- where all of one list lie behind those of another, their union is one after the other
+above_first : (n : ℕ) (numbers : List ℕ) → IsRising numbers → n < get_or numbers 0 0 → Above n numbers
+above_first n [] rising less = tt
+above_first n (m ∷ numbers) rising less = (less, above_less n m numbers less rising.0)
+
+pub union-behind : (xs ys : List ℕ) → IsRising ys → ((k : ℕ) → k < length xs → get_or xs k 0 < get_or ys 0 0) → union xs ys ≡ xs ++ ys
+union-behind [] ys rising behind = union-nil ys rising
+union-behind (x ∷ xs) ys rising behind =
+    first_left x xs ys (above_first x ys rising (behind 0 (omega arith)))
+    ∙ ap (λ zs. x ∷ zs) (union-behind xs ys rising (λ k within. behind (suc k) (omega (arith, within))))
+
 -- where one of two lists is empty, their union is one after the other
 pub union-ended : (both left right all : List ℕ) → IsRising right → (length left ≡ 0) ⊎ (length right ≡ 0) → both ++ union left right ≡ all → (both ++ left) ++ right ≡ all
 union-ended both [] right all rising ended is = rw (append-nil both) (ap (λ xs. both ++ xs) (sym (union-nil right rising)) ∙ is)
 union-ended both (x ∷ left) [] all rising ended is = append-nil (both ++ x ∷ left) ∙ is
 union-ended both (x ∷ left) (y ∷ right) all rising (inl none) is = absurd (omega (arith, none))
 union-ended both (x ∷ left) (y ∷ right) all rising (inr none) is = absurd (omega (arith, none))
+
+pub union-of_none : (xs ys : List ℕ) → IsRising ys → (length xs ≡ 0) ⊎ (length ys ≡ 0) → union xs ys ≡ xs ++ ys
+union-of_none xs ys rising none = sym (union-ended [] xs ys (union xs ys) rising none refl)
 
 pub take-rest : (xs : List ℕ) → take (length xs - 1) (drop 1 xs) ≡ drop 1 xs
 take-rest xs = grind (arith, common_steps)

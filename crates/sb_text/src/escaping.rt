@@ -1,3 +1,4 @@
+// The escaped form of texts in reports, scripts and transcripts.
 ghost use Rattle.std.specs.Prelude.{◌≡◌, ℕ, ◌<◌, List, ◌++◌, Some, None, IsUtf8, OnOk, OnErr, IfOk, IfSome, IfNone, MatchOption, length, take, option_map};
 ghost use Rattle.sb_text.specs.Escape.{is_plain, hex_digit, escaped_byte, escaped, hex_value, byte_of_digits, after_percent, bytes_unescaped, unescaped, text_unescaped};
 ghost use Rattle.sb_text.specs.Field.{onto_text};
@@ -25,7 +26,8 @@ pub fn escape(_alloc: Global, out: &mut Vec<u8>, bytes: &[u8]) -> Result<(), NoM
 pub fn unescape(alloc: Global, bytes: &[u8]) -> Result<Option<Text>, NoMemory>
     ensures value { IfOk result (λ text. text ≡ text_unescaped bytes.now) }
     ensures spelled { IfOk result (λ text. IfSome text (λ t. IsUtf8 t × (bytes.now ≡ escaped t))) }
-    ensures every { IfOk result (λ text. (t : List ℕ) → IsUtf8 t → bytes.now ≡ escaped t → text ≡ Some t) }
+    ensures every { IfOk result (λ text. (t : List ℕ) → IsUtf8 t → bytes.now ≡ escaped t
+        → text ≡ Some t) }
 {
     match unescape_bytes(alloc, bytes)? {
         Some(text) => Ok(Text::from_bytes(text)),
@@ -61,7 +63,9 @@ fn unescape_several(alloc: Global, bytes: &[u8]) -> Result<Option<Vec<u8>>, NoMe
 // The byte that the front of an escaped form spells, and what follows it.
 fn unescape_first(bytes: &[u8]) -> Option<(u8, &[u8])>
     requires { 0 < length bytes.now }
-    ensures value { MatchOption result (bytes_unescaped bytes.now ≡ None) (λ first. bytes_unescaped bytes.now ≡ onto_text (Some first.0) (bytes_unescaped first.1.now)) }
+    ensures value { MatchOption result (bytes_unescaped bytes.now ≡ None)
+        (λ first. bytes_unescaped bytes.now ≡ onto_text (Some first.0)
+        (bytes_unescaped first.1.now)) }
     ensures shorter { IfSome result (λ first. length first.1.now < length bytes.now) }
 {
     match bytes {

@@ -1,3 +1,4 @@
+// The form of texts in the fields of logs and services.
 ghost use Rattle.std.specs.Prelude.{◌≡◌, ℕ, List, ◌++◌, IsUtf8, OnOk, OnErr, IfOk, IfSome, Some, length, take, option_map};
 ghost use Rattle.sb_text.specs.Field.{field_escaped_byte, field_escaped, field_unescaped, field_text, after_backslash};
 
@@ -47,8 +48,10 @@ fn push_field_byte(out: &mut Vec<u8>, byte: u8) -> Result<(), NoMemory>
 /// backslash that begins no escape, or bytes that aren't UTF-8.
 pub fn field_unescape(alloc: Global, bytes: &[u8]) -> Result<Option<Text>, NoMemory>
     ensures value { IfOk result (λ text. text ≡ field_text bytes.now) }
-    ensures spelled { IfOk result (λ text. IfSome text (λ t. IsUtf8 t × (bytes.now ≡ field_escaped t))) }
-    ensures every { IfOk result (λ text. (t : List ℕ) → IsUtf8 t → bytes.now ≡ field_escaped t → text ≡ Some t) }
+    ensures spelled { IfOk result (λ text. IfSome text
+        (λ t. IsUtf8 t × (bytes.now ≡ field_escaped t))) }
+    ensures every { IfOk result (λ text. (t : List ℕ) → IsUtf8 t → bytes.now ≡ field_escaped t
+        → text ≡ Some t) }
 {
     match unescape_bytes(alloc, bytes)? {
         Some(text) => Ok(Text::from_bytes(text)),

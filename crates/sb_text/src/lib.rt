@@ -10,8 +10,6 @@ mod lines;
 mod printed;
 mod ranges;
 mod splitting;
-#[cfg(test)]
-mod tests;
 mod text;
 
 pub use columns::Columns;

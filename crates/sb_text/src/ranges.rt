@@ -1,3 +1,4 @@
+// Sets of numbers, printed as their maximal ranges.
 ghost use Rattle.std.specs.Prelude.{◌≡◌, ◌↔◌, ℕ, ◌+◌, ◌-◌, ◌^◌, ◌<◌, ◌≤◌, List, [], ◌∷◌, ◌++◌, Some, None, IsTrue, OnOk, OnErr, IfOk, IfSome, MatchOption, Contains, length, take, insert, option_map};
 ghost use Rattle.std.specs.List.{AllByRecursion};
 ghost use Rattle.sb_text.specs.Columns.{pieces};
@@ -60,11 +61,16 @@ impl Ranges {
         self.numbers.binary_search(&number).is_ok()
     }
 
-    /// Puts each number of another set into this one, in time linear in both.
+    /// Puts each number of another set into this one, in time linear in both. Where all of them lie behind the
+    /// numbers that are there, they are appended: in constant time for each, amortised.
     pub fn union(&mut self, other: &Ranges) -> Result<(), NoMemory>
         ensures ok { OnOk result (self.new ≡ union self.old other.now) }
         ensures err { OnErr result (self.new ≡ self.old) }
     {
+        if lies_behind(&self.numbers, &other.numbers) {
+            self.numbers.extend_from_slice(&other.numbers)?;
+            return Ok(());
+        }
         let alloc = *self.numbers.allocator();
         self.numbers = merged(alloc, &self.numbers, &other.numbers)?;
         Ok(())
@@ -75,14 +81,6 @@ impl Ranges {
         ensures { result ≡ length self.now }
     {
         self.numbers.len() as u64
-    }
-
-    /// The numbers in rising order.
-    pub fn as_slice(&self) -> &[u64]
-        ensures numbers { result.now ≡ self.now }
-        ensures set { IsSet result.now }
-    {
-        &self.numbers
     }
 
     /// An equal set.
@@ -111,8 +109,10 @@ impl Ranges {
     /// The set of which this is the text; `None` exactly where the bytes are no set's text. Takes as much memory as
     /// the numbers need, and a short text may have many.
     pub fn read(alloc: Global, bytes: &[u8]) -> Result<Option<Ranges>, NoMemory>
-        ensures spelled { IfOk result (λ ranges. IfSome ranges (λ numbers. IsSet numbers × (bytes.now ≡ ranges_text numbers))) }
-        ensures every { IfOk result (λ ranges. (numbers : List ℕ) → IsSet numbers → bytes.now ≡ ranges_text numbers → ranges ≡ Some numbers) }
+        ensures spelled { IfOk result (λ ranges.
+            IfSome ranges (λ numbers. IsSet numbers × (bytes.now ≡ ranges_text numbers))) }
+        ensures every { IfOk result (λ ranges. (numbers : List ℕ) → IsSet numbers
+            → bytes.now ≡ ranges_text numbers → ranges ≡ Some numbers) }
     {
         match read_set(alloc, bytes)? {
             Some(numbers) => Ok(Some(Ranges { numbers })),
@@ -163,7 +163,8 @@ fn read_set(alloc: Global, bytes: &[u8]) -> Result<Option<Vec<u64>>, NoMemory>
 }
 
 fn read_numbers(alloc: Global, bytes: &[u8]) -> Result<Option<Vec<u64>>, NoMemory>
-    ensures { IfOk result (λ numbers. option_map (λ n. n.items) numbers ≡ numbers_from 0 (pieces 44 bytes.now)) }
+    ensures { IfOk result (λ numbers. option_map (λ n. n.items) numbers
+        ≡ numbers_from 0 (pieces 44 bytes.now)) }
 {
     let mut numbers = Vec::new(alloc);
     let mut least = 0;
@@ -206,7 +207,8 @@ fn read_range(text: &[u8]) -> Option<(u64, u64)>
 }
 
 fn split_range(text: &[u8]) -> Option<(&[u8], &[u8])>
-    ensures { MatchOption result (cut 45 text.now ≡ None) (λ parts. cut 45 text.now ≡ Some (parts.0.now, parts.1.now)) }
+    ensures { MatchOption result (cut 45 text.now ≡ None)
+        (λ parts. cut 45 text.now ≡ Some (parts.0.now, parts.1.now)) }
 {
     split_once(text, b'-')
 }
@@ -224,7 +226,9 @@ fn push_numbers(numbers: &mut Vec<u64>, low: u64, high: u64) -> Result<(), NoMem
 // Where the number goes among rising numbers; none where it is one of them.
 fn place_for(numbers: &[u64], number: u64) -> Option<usize>
     requires { IsRising numbers.now }
-    ensures { MatchOption result (put number numbers.now ≡ numbers.now) (λ at. (at ≤ length numbers.now) × (put number numbers.now ≡ insert numbers.now at number)) }
+    ensures { MatchOption result (put number numbers.now ≡ numbers.now)
+        (λ at. (at ≤ length numbers.now) × (put number numbers.now
+        ≡ insert numbers.now at number)) }
 {
     if is_above_all(numbers, number) {
         return Some(numbers.len());
@@ -237,9 +241,19 @@ fn place_for(numbers: &[u64], number: u64) -> Option<usize>
 
 fn is_above_all(numbers: &[u64], number: u64) -> bool
     requires { IsRising numbers.now }
-    ensures { IsTrue result → put number numbers.now ≡ insert numbers.now (length numbers.now) number }
+    ensures { IsTrue result → put number numbers.now
+        ≡ insert numbers.now (length numbers.now) number }
 {
     numbers.is_empty() || numbers[numbers.len() - 1] < number
+}
+
+// Whether each number on the right lies behind all on the left.
+fn lies_behind(left: &[u64], right: &[u64]) -> bool
+    requires left { IsRising left.now }
+    requires right { IsRising right.now }
+    ensures { IsTrue result → union left.now right.now ≡ left.now ++ right.now }
+{
+    left.is_empty() || right.is_empty() || left[left.len() - 1] < right[0]
 }
 
 // The numbers of both rising lists.
@@ -268,7 +282,8 @@ fn split_least<'a>(left: &'a [u64], right: &'a [u64]) -> (u64, &'a [u64], &'a [u
     requires right { IsRising right.now }
     ensures least { union left.now right.now ≡ result.0 ∷ union result.1.now result.2.now }
     ensures rising { IsRising result.1.now × IsRising result.2.now }
-    ensures shorter { length result.1.now + length result.2.now < length left.now + length right.now }
+    ensures shorter { length result.1.now + length result.2.now
+        < length left.now + length right.now }
 {
     let (x, y) = (left[0], right[0]);
     if x < y {

@@ -1,7 +1,9 @@
+// Texts in UTF-8, their order and their hash.
 ghost use Rattle.std.specs.Prelude.{◌≡◌, ◌↔◌, IsUtf8, IsSome, IfSome, IfOk, string_bytes};
 
 use std::alloc::{AllocError, Global};
 use std::cmp::Ordering;
+use std::hash::{Hash, Hasher};
 use std::marker::Model;
 
 /// Want of memory.
@@ -111,5 +113,20 @@ impl PartialOrd for Text {
 
     fn partial_cmp(&self, other: &Text) -> Option<Ordering> {
         Some(self.cmp(other))
+    }
+}
+
+impl Hash for Text {
+    ghost use Rattle.std.proofs.Common.{rules};
+    ghost use Rattle.std.specs.Cmp.Rules.{comparing, hashing};
+    ghost use Rattle.std.specs.Prelude.{[], ◌∷◌};
+
+    ghost hash_input = { λ t. t ∷ [] };
+
+    ghost respects_eq = { Prim.search (hashing, rules) };
+
+    // All bytes at once: a hasher that is fed byte by byte takes several times as long.
+    fn hash<H: Hasher>(&self, state: &mut H) {
+        state.write(self.as_bytes());
     }
 }

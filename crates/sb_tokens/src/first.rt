@@ -28,7 +28,8 @@ pub(crate) fn first_token(bytes: &[u8]) -> Option<(Token<'_>, usize)>
 }
 
 fn symbol_token(bytes: &[u8]) -> Option<(Token<'_>, usize)>
-    ensures value { option_map (λ p. token_view p.0) result ≡ option_map symbol (first_symbol bytes.now) }
+    ensures value { option_map (λ p. token_view p.0) result
+        ≡ option_map symbol (first_symbol bytes.now) }
     ensures count { IfSome result (λ p. p.1 ≡ length (spelling (token_view p.0))) }
     ensures bounds { IfSome result (λ p. (0 < p.1) × (p.1 ≤ length bytes.now)) }
 {

@@ -6,7 +6,8 @@ const LF: u8 = b'\n';
 
 /// The number of bytes before the next token.
 pub(crate) fn gap_length(bytes: &[u8]) -> usize
-    ensures value { (offset : ℕ) → lexed_from offset bytes.now ≡ lexed_from (offset + result) (drop result bytes.now) }
+    ensures value { (offset : ℕ) → lexed_from offset bytes.now
+        ≡ lexed_from (offset + result) (drop result bytes.now) }
     ensures whole { BeginsNoGap (drop result bytes.now) }
     ensures bound { result ≤ length bytes.now }
 {

@@ -1,3 +1,4 @@
+// The keywords of programs.
 ghost use Rattle.std.specs.Prelude.{◌≡◌, Some, IfOk, IfSome, bytes_eq};
 ghost use Rattle.std.specs.List.{find};
 ghost use Rattle.sb_tokens.specs.Keyword.{keyword_text};
@@ -174,7 +175,8 @@ impl Keyword {
     pub fn from_bytes(bytes: &[u8]) -> Option<Keyword>
         ensures value { result ≡ keyword_of bytes.now }
         ensures spelled { IfSome result (λ keyword. bytes.now ≡ keyword_text keyword) }
-        ensures every { (keyword : Keyword) → bytes.now ≡ keyword_text keyword → result ≡ Some keyword }
+        ensures every { (keyword : Keyword) → bytes.now ≡ keyword_text keyword
+            → result ≡ Some keyword }
     {
         find_keyword(&KEYWORDS, bytes)
     }

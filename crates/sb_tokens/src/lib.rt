@@ -6,8 +6,6 @@ mod gaps;
 mod keyword;
 mod quoting;
 mod symbol;
-#[cfg(test)]
-mod tests;
 mod token;
 mod tokens;
 mod words;

@@ -13,7 +13,8 @@ use std::str::from_utf8;
 
 /// The text whose opening quote these bytes follow, and its number of bytes with both quotes.
 pub(crate) fn first_text(behind: &[u8]) -> Option<(Token<'_>, usize)>
-    ensures value { option_map (λ p. token_view p.0) result ≡ option_map text (text_quoted behind.now) }
+    ensures value { option_map (λ p. token_view p.0) result
+        ≡ option_map text (text_quoted behind.now) }
     ensures count { IfSome result (λ p. p.1 ≡ length (spelling (token_view p.0))) }
     ensures bounds { IfSome result (λ p. (0 < p.1) × (p.1 ≤ 1 + length behind.now)) }
 {
@@ -33,7 +34,8 @@ fn is_utf8(bytes: &[u8]) -> bool
 
 // The number of bytes before the closing quote.
 fn quoted_length(behind: &[u8]) -> Option<usize>
-    ensures value { result ≡ option_map (λ value. length (flat_map quoted_byte value)) (bytes_quoted behind.now) }
+    ensures value { result ≡ option_map (λ value. length (flat_map quoted_byte value))
+        (bytes_quoted behind.now) }
     ensures bound { IfSome result (λ count. count < length behind.now) }
 {
     let mut escaping = false;

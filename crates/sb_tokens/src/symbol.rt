@@ -1,3 +1,4 @@
+// The symbols of programs, the longest first.
 ghost use Rattle.std.specs.Prelude.{◌≡◌, ◌==◌, ◌<◌, ◌≤◌, length, IfSome};
 ghost use Rattle.std.specs.List.{find, starts_with};
 ghost use Rattle.sb_tokens.specs.Symbol.{symbol_text};
@@ -90,13 +91,15 @@ impl Symbol {
 /// The longest symbol at the front.
 pub(crate) fn first_symbol(bytes: &[u8]) -> Option<Symbol>
     ensures value { result ≡ first_symbol bytes.now }
-    ensures bounds { IfSome result (λ symbol. (0 < length (symbol_text symbol)) × (length (symbol_text symbol) ≤ length bytes.now)) }
+    ensures bounds { IfSome result (λ symbol. (0 < length (symbol_text symbol))
+        × (length (symbol_text symbol) ≤ length bytes.now)) }
 {
     find_symbol(&SYMBOLS, bytes)
 }
 
 fn find_symbol(symbols: &[Symbol], bytes: &[u8]) -> Option<Symbol>
-    ensures { result ≡ find (λ symbol. starts_with ◌==◌ bytes.now (symbol_text symbol)) symbols.now }
+    ensures { result ≡ find (λ symbol. starts_with ◌==◌ bytes.now (symbol_text symbol))
+        symbols.now }
 {
     for symbol in symbols {
         if bytes.starts_with(symbol.text().as_bytes()) {

@@ -1,3 +1,4 @@
+// The tokens of a text, one after the other.
 ghost use Rattle.std.specs.Prelude.{◌≡◌, ◌≤◌, None, IfOk, IfErr, IfSome, All, drop, length, map};
 
 use crate::Token;
@@ -38,7 +39,8 @@ impl<'a> Tokens<'a> {
     pub fn new(bytes: &'a [u8]) -> Self
         ensures value { result ≡ lexed bytes.now }
         ensures spelled { All (StandsIn bytes.now) result.tokens }
-        ensures written { (pieces : Pieces) → All IsWritten pieces → bytes.now ≡ written pieces → AreTokens result (map (λ p. p.0) pieces) (length bytes.now) }
+        ensures written { (pieces : Pieces) → All IsWritten pieces → bytes.now ≡ written pieces
+            → AreTokens result (map (λ p. p.0) pieces) (length bytes.now) }
     {
         Tokens {
             offset: 0,
@@ -49,9 +51,11 @@ impl<'a> Tokens<'a> {
     /// The next token and its offset, or `None` at the end of the text. At the end, and behind a bad token, each further
     /// call answers the same.
     pub fn next_token(&mut self) -> Result<Option<(u64, Token<'a>)>, BadToken>
-        ensures token { IfOk result (λ next. IfSome next (λ p. self.old ≡ onto_tokens (p.0, token_view p.1) self.new)) }
+        ensures token { IfOk result (λ next. IfSome next
+            (λ p. self.old ≡ onto_tokens (p.0, token_view p.1) self.new)) }
         ensures end { IfOk result (λ next. next ≡ None → IsEnd self.old × (self.new ≡ self.old)) }
-        ensures bad { IfErr result (λ e. (self.old ≡ stopped (bad e.offset)) × (self.new ≡ self.old)) }
+        ensures bad { IfErr result (λ e. (self.old ≡ stopped (bad e.offset))
+            × (self.new ≡ self.old)) }
     {
         let gap = gap_length(self.rest);
         let offset = self.offset + gap as u64;

@@ -27,7 +27,8 @@ fn is_letter_or_digit(byte: u8) -> bool
 /// The keyword or name at the front, where a letter stands there, and its number of bytes.
 pub(crate) fn first_word(bytes: &[u8]) -> Option<(Token<'_>, usize)>
     requires { is_letter (get_or bytes.now 0 0) ≡ true }
-    ensures value { option_map (λ p. token_view p.0) result ≡ word_token (take_while is_letter_or_digit bytes.now) }
+    ensures value { option_map (λ p. token_view p.0) result
+        ≡ word_token (take_while is_letter_or_digit bytes.now) }
     ensures count { IfSome result (λ p. p.1 ≡ length (spelling (token_view p.0))) }
     ensures bounds { IfSome result (λ p. (0 < p.1) × (p.1 ≤ length bytes.now)) }
 {
@@ -38,7 +39,8 @@ pub(crate) fn first_word(bytes: &[u8]) -> Option<(Token<'_>, usize)>
 /// The number at the front, where a digit stands there, and its number of bytes.
 pub(crate) fn first_number(bytes: &[u8]) -> Option<(Token<'_>, usize)>
     requires { is_ascii_digit (get_or bytes.now 0 0) ≡ true }
-    ensures value { option_map (λ p. token_view p.0) result ≡ number_token (take_while is_letter_or_digit bytes.now) }
+    ensures value { option_map (λ p. token_view p.0) result
+        ≡ number_token (take_while is_letter_or_digit bytes.now) }
     ensures count { IfSome result (λ p. p.1 ≡ length (spelling (token_view p.0))) }
     ensures bounds { IfSome result (λ p. (0 < p.1) × (p.1 ≤ length bytes.now)) }
 {

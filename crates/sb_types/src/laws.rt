@@ -24,19 +24,23 @@ pub fn order_by_cases()
     ensures int { (m n : ℤ) → value_cmp (int m) (int n) ≡ int_cmp m n }
     ensures text { (s t : List ℕ) → value_cmp (text s) (text t) ≡ slice_cmp nat_cmp s t }
     ensures truth { (a b : Bool) → value_cmp (truth a) (truth b) ≡ bool_cmp a b }
-    ensures pair { (v w x y : Value) → value_cmp (pair v w) (pair x y) ≡ ordering_then (value_cmp v x) (value_cmp w y) }
+    ensures pair { (v w x y : Value) → value_cmp (pair v w) (pair x y)
+        ≡ ordering_then (value_cmp v x) (value_cmp w y) }
     ensures none { (v : Value) → value_cmp none (some v) ≡ Less }
     ensures some { (v w : Value) → value_cmp (some v) (some w) ≡ value_cmp v w }
     ensures list { (vs ws : Values) → value_cmp (list vs) (list ws) ≡ values_cmp vs ws }
     ensures rec { (vs ws : Values) → value_cmp (rec vs) (rec ws) ≡ values_cmp vs ws }
-    ensures parts { (v w : Value) (vs ws : Values) → values_cmp (more v vs) (more w ws) ≡ ordering_then (value_cmp v w) (values_cmp vs ws) }
+    ensures parts { (v w : Value) (vs ws : Values)
+        → values_cmp (more v vs) (more w ws) ≡ ordering_then (value_cmp v w) (values_cmp vs ws) }
     ensures prefix { (v : Value) (vs : Values) → values_cmp end (more v vs) ≡ Less }
-    ensures variants { (v w : Value) → variant_of v ≢ variant_of w → value_cmp v w ≡ nat_cmp (variant_of v) (variant_of w) }
+    ensures variants { (v w : Value) → variant_of v ≢ variant_of w
+        → value_cmp v w ≡ nat_cmp (variant_of v) (variant_of w) }
 {}
 
 /// No two keys of one key type have one text.
 pub fn keys_have_own_texts()
-    ensures { (t : ValueType) (v w : Value) → IsKeyOf t v → IsKeyOf t w → value_text v ≡ value_text w → v ≡ w }
+    ensures { (t : ValueType) (v w : Value) → IsKeyOf t v → IsKeyOf t w
+        → value_text v ≡ value_text w → v ≡ w }
 {}
 
 /// The keys of a type are its values in which there is no list and no record.

@@ -7,6 +7,7 @@ use crate::values::Val;
 use sb_text::{NoMemory, read_i64, unescape};
 use std::alloc::Global;
 
+/// An int at the front of the bytes, with what follows it.
 pub fn read_int(bytes: &[u8]) -> Option<(Val, &[u8])>
     ensures { option_map front_of result ≡ value_front ints bytes.now }
 {
@@ -15,6 +16,7 @@ pub fn read_int(bytes: &[u8]) -> Option<(Val, &[u8])>
     Some((Val::Int(number), rest))
 }
 
+/// A text.
 pub fn read_text(alloc: Global, bytes: &[u8]) -> Result<Option<(Val, &[u8])>, NoMemory>
     ensures { IfOk result (λ read. option_map front_of read ≡ value_front texts bytes.now) }
 {
@@ -25,6 +27,7 @@ pub fn read_text(alloc: Global, bytes: &[u8]) -> Result<Option<(Val, &[u8])>, No
     }
 }
 
+/// A truth.
 pub fn read_bool(bytes: &[u8]) -> Option<(Val, &[u8])>
     ensures { option_map front_of result ≡ value_front truths bytes.now }
 {
@@ -66,7 +69,8 @@ fn ends_part(byte: u8) -> bool
 
 /// What follows this byte.
 pub fn expect(byte: u8, bytes: &[u8]) -> Option<&[u8]>
-    ensures { MatchOption result (expect byte bytes.now ≡ None) (λ rest. expect byte bytes.now ≡ Some rest.now) }
+    ensures { MatchOption result (expect byte bytes.now ≡ None)
+        (λ rest. expect byte bytes.now ≡ Some rest.now) }
 {
     match bytes {
         [first, rest @ ..] if *first == byte => Some(rest),

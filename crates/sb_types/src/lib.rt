@@ -6,8 +6,6 @@ mod laws;
 mod leaves;
 mod order;
 mod reading;
-#[cfg(test)]
-mod tests;
 mod types;
 mod values;
 mod writing;

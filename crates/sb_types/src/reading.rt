@@ -1,3 +1,4 @@
+// Values of a type, read from their texts.
 ghost use Rattle.std.specs.Prelude.{◌≡◌, List, ℕ, ◌++◌, Some, None, IfOk, IfSome, option_map, if◌then◌else◌};
 ghost use Rattle.sb_types.specs.Key.{IsKeyOf, is_key};
 ghost use Rattle.sb_types.specs.Read.{IsEnd, front_of, parts_of, next_front, further_front, parts_front, list_front, value_front, fields_front, value_read};
@@ -17,8 +18,11 @@ use std::alloc::Global;
 
 /// The value of a type of which this is the text; `None` exactly where the bytes are no such value's text.
 pub fn read(alloc: Global, ty: &Ty, bytes: &[u8]) -> Result<Option<Val>, NoMemory>
-    ensures spelled { IfOk result (λ value. IfSome value (λ v. IsValueOf (type_of ty.now) (value_of v) × (bytes.now ≡ value_text (value_of v)))) }
-    ensures every { IfOk result (λ value. (v : Value) → IsValueOf (type_of ty.now) v → bytes.now ≡ value_text v → option_map value_of value ≡ Some v) }
+    ensures spelled { IfOk result (λ value.
+        IfSome value (λ v. IsValueOf (type_of ty.now) (value_of v)
+        × (bytes.now ≡ value_text (value_of v)))) }
+    ensures every { IfOk result (λ value. (v : Value) → IsValueOf (type_of ty.now) v
+        → bytes.now ≡ value_text v → option_map value_of value ≡ Some v) }
 {
     read_whole(alloc, ty, bytes)
 }
@@ -26,8 +30,10 @@ pub fn read(alloc: Global, ty: &Ty, bytes: &[u8]) -> Result<Option<Val>, NoMemor
 /// The value of a key type of which this is the text; `None` exactly where the bytes are no such value's text, as
 /// with a type that is no key type.
 pub fn read_key(alloc: Global, ty: &Ty, bytes: &[u8]) -> Result<Option<Val>, NoMemory>
-    ensures spelled { IfOk result (λ key. IfSome key (λ v. IsKeyOf (type_of ty.now) (value_of v) × (bytes.now ≡ value_text (value_of v)))) }
-    ensures every { IfOk result (λ key. (v : Value) → IsKeyOf (type_of ty.now) v → bytes.now ≡ value_text v → option_map value_of key ≡ Some v) }
+    ensures spelled { IfOk result (λ key. IfSome key
+        (λ v. IsKeyOf (type_of ty.now) (value_of v) × (bytes.now ≡ value_text (value_of v)))) }
+    ensures every { IfOk result (λ key. (v : Value) → IsKeyOf (type_of ty.now) v
+        → bytes.now ≡ value_text v → option_map value_of key ≡ Some v) }
 {
     match read(alloc, ty, bytes)? {
         Some(value) => Ok(key_in(value)),
@@ -42,15 +48,21 @@ pub fn read_front<'a>(
     ty: &Ty,
     bytes: &'a [u8],
 ) -> Result<Option<(Val, &'a [u8])>, NoMemory>
-    ensures value { IfOk result (λ read. option_map front_of read ≡ value_front (type_of ty.now) bytes.now) }
-    ensures spelled { IfOk result (λ read. IfSome read (λ r. IsValueOf (type_of ty.now) (value_of r.0) × (bytes.now ≡ value_text (value_of r.0) ++ r.1.now))) }
-    ensures every { IfOk result (λ read. (v : Value) (rest : List ℕ) → IsValueOf (type_of ty.now) v → IsEnd rest → bytes.now ≡ value_text v ++ rest → option_map front_of read ≡ Some (record { value = v; rest = rest })) }
+    ensures value { IfOk result (λ read. option_map front_of read
+        ≡ value_front (type_of ty.now) bytes.now) }
+    ensures spelled { IfOk result (λ read. IfSome read
+        (λ r. IsValueOf (type_of ty.now) (value_of r.0)
+        × (bytes.now ≡ value_text (value_of r.0) ++ r.1.now))) }
+    ensures every { IfOk result (λ read. (v : Value) (rest : List ℕ) → IsValueOf (type_of ty.now) v
+        → IsEnd rest → bytes.now ≡ value_text v ++ rest
+        → option_map front_of read ≡ Some (record { value = v; rest = rest })) }
 {
     value_at_front(alloc, ty, bytes)
 }
 
 fn read_whole(alloc: Global, ty: &Ty, bytes: &[u8]) -> Result<Option<Val>, NoMemory>
-    ensures { IfOk result (λ value. option_map value_of value ≡ value_read (type_of ty.now) bytes.now) }
+    ensures { IfOk result (λ value. option_map value_of value
+        ≡ value_read (type_of ty.now) bytes.now) }
 {
     match value_at_front(alloc, ty, bytes)? {
         Some((value, [])) => Ok(Some(value)),
@@ -82,7 +94,8 @@ fn value_at_front<'a>(
     ty: &Ty,
     bytes: &'a [u8],
 ) -> Result<Option<(Val, &'a [u8])>, NoMemory>
-    ensures { IfOk result (λ read. option_map front_of read ≡ value_front (type_of ty.now) bytes.now) }
+    ensures { IfOk result (λ read. option_map front_of read
+        ≡ value_front (type_of ty.now) bytes.now) }
 {
     match ty {
         Ty::Int => Ok(read_int(bytes)),
@@ -131,7 +144,8 @@ fn read_list<'a>(
     most: u64,
     bytes: &'a [u8],
 ) -> Result<Option<(Val, &'a [u8])>, NoMemory>
-    ensures { IfOk result (λ read. option_map front_of read ≡ list_front (value_front (type_of of.now)) most bytes.now) }
+    ensures { IfOk result (λ read. option_map front_of read
+        ≡ list_front (value_front (type_of of.now)) most bytes.now) }
 {
     let Some(bytes) = expect(b'[', bytes) else {
         return Ok(None);
@@ -149,7 +163,8 @@ fn read_list<'a>(
 // The values that stand at the front of the bytes, with a comma between each two.
 #[cycle(read)]
 fn read_parts<'a>(alloc: Global, of: &Ty, bytes: &'a [u8]) -> Result<(Vec<Val>, &'a [u8]), NoMemory>
-    ensures { IfOk result (λ read. parts_of (read.0.items, read.1.now) ≡ parts_front (value_front (type_of of.now)) bytes.now) }
+    ensures { IfOk result (λ read. parts_of (read.0.items, read.1.now)
+        ≡ parts_front (value_front (type_of of.now)) bytes.now) }
 {
     let mut values = Vec::new(alloc);
     let Some((first, bytes)) = value_at_front(alloc, of, bytes)? else {
@@ -174,7 +189,8 @@ fn read_next<'a>(
     of: &Ty,
     bytes: &'a [u8],
 ) -> Result<Option<(Val, &'a [u8])>, NoMemory>
-    ensures { IfOk result (λ read. option_map front_of read ≡ next_front (value_front (type_of of.now)) bytes.now) }
+    ensures { IfOk result (λ read. option_map front_of read
+        ≡ next_front (value_front (type_of of.now)) bytes.now) }
 {
     match expect(b',', bytes) {
         Some(bytes) => value_at_front(alloc, of, bytes),
@@ -188,7 +204,8 @@ fn read_record<'a>(
     fields: &[Field],
     bytes: &'a [u8],
 ) -> Result<Option<(Val, &'a [u8])>, NoMemory>
-    ensures { IfOk result (λ read. option_map front_of read ≡ value_front (records (view_fields fields.now)) bytes.now) }
+    ensures { IfOk result (λ read. option_map front_of read
+        ≡ value_front (records (view_fields fields.now)) bytes.now) }
 {
     let Some(bytes) = expect(b'{', bytes) else {
         return Ok(None);
@@ -209,7 +226,8 @@ fn read_fields<'a>(
     fields: &[Field],
     bytes: &'a [u8],
 ) -> Result<Option<(Vec<Val>, &'a [u8])>, NoMemory>
-    ensures { IfOk result (λ read. option_map (λ r. parts_of (r.0.items, r.1.now)) read ≡ fields_front (view_fields fields.now) bytes.now) }
+    ensures { IfOk result (λ read. option_map (λ r. parts_of (r.0.items, r.1.now)) read
+        ≡ fields_front (view_fields fields.now) bytes.now) }
 {
     let mut values = Vec::with_capacity(alloc, fields.len())?;
     let mut rest = bytes;

@@ -1,8 +1,0 @@
-use Rattle.std.proofs.Common.{◌≡◌, ◌-◌, length}
-use Rattle.sb_kind.specs.Read.{item_front, items_from, items_front}
-use Rattle.sb_kind.proofs.ReadLists.{onto}
-use Rattle.sb_kind.proofs.lists.read_items.Given as goal
-
-abbrev pub invariant-loop-at : goal.invariant-loop-at
-invariant-loop-at l =
-    onto l.items.items (items_from (item_front) (length l.fn.bytes - l.at) l.at l.rest) ≡ items_front (item_front) l.fn.bytes

@@ -1,4 +1,0 @@
-use Rattle.sb_syntax.proofs.kinds.+type_tree.Given as goal
-
-abbrev pub decreases-type_tree : goal.decreases-type_tree
-decreases-type_tree l = l.depth
