@@ -1,0 +1,14 @@
+pub mod Admission
+pub mod Answers
+pub mod CheckedView
+pub mod Comments
+pub mod Declarations
+pub mod Log
+pub mod LogView
+pub mod MonoidText
+pub mod Names
+pub mod OnlineView
+pub mod Programs
+pub mod Stores
+pub mod StreamNodes
+pub mod Streams
