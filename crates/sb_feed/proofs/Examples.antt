@@ -1,9 +1,10 @@
--- Three records, two keys, two batches: folds, and sums that stand for the job and that don't.
+-- Three records, two keys, two batches: folds, and sums that stand for the log and that don't.
 use Rattle.std.proofs.Common.{◌≡◌, ℕ, ◌+◌, true, ◌&&◌, ◌||◌, List, [], ◌∷◌, Option, Some, None, refl, arith}
 use Rattle.std.specs.Prelude.{◌==◌, codes}
 use Rattle.sb_feed.specs.declared.key.KeyBytes.{KeyBytes}
 use Rattle.sb_feed.specs.declared.parts.Part.{Part}
-use Rattle.sb_feed.specs.Jobs.{Job, batch_count, batch_of, chunk_of, fold_of, is_in, is_named}
+use Rattle.sb_feed.specs.Places.{batches_of, batch_at, chunk_at, is_in, is_named}
+use Rattle.sb_feed.specs.Jobs.{CutLog, places_of, log_fold}
 use Rattle.sb_feed.specs.Stands.{sum_at, ShardSums, AreFoldsOf}
 
 abbrev a : KeyBytes
@@ -12,8 +13,8 @@ a = record { store = 0; text = codes "a" }
 abbrev b : KeyBytes
 b = record { store = 0; text = codes "b" }
 
-abbrev job : Job ℕ
-job = record {
+abbrev log : CutLog ℕ
+log = record {
   records = record { batch = 0; parts = (a, 2) ∷ [] } ∷ record { batch = 1; parts = (a, 5) ∷ (b, 1) ∷ [] } ∷ record { batch = 0; parts = (a, 1) ∷ [] } ∷ [];
   chunk = 2;
   shards = 1;
@@ -23,24 +24,24 @@ job = record {
 abbrev plus : ℕ → ℕ → ℕ → ℕ
 plus store x y = x + y
 
-batches : batch_count job.records ≡ 2
+batches : batches_of (places_of log) ≡ 2
 batches = refl
 
-first_and_last : fold_of plus job a (λ i. (i == 0) || (i == 2)) ≡ Some 3
+first_and_last : log_fold plus log a (λ i. (i == 0) || (i == 2)) ≡ Some 3
 first_and_last = refl
 
-none_of_b : fold_of plus job b (λ i. (i == 0) || (i == 2)) ≡ None
+none_of_b : log_fold plus log b (λ i. (i == 0) || (i == 2)) ≡ None
 none_of_b = refl
 
-second_chunk : chunk_of job 2 ≡ 1
+second_chunk : chunk_at (places_of log) 2 ≡ 1
 second_chunk = refl
 
 -- the first chunk, up to batch 0
-named_a : fold_of plus job a (is_named job 0 0 (0 ∷ [])) ≡ Some 2
+named_a : log_fold plus log a (is_named (places_of log) 0 0 (0 ∷ [])) ≡ Some 2
 named_a = refl
 
 -- with batch 0 published, whatever the cover
-named_published : fold_of plus job a (is_named job 1 1 []) ≡ Some 3
+named_published : log_fold plus log a (is_named (places_of log) 1 1 []) ≡ Some 3
 named_published = refl
 
 abbrev first_chunk : List (Part ℕ)
@@ -48,11 +49,11 @@ first_chunk = record { key = a; batch = 0; value = 2 } ∷ record { key = a; bat
 
 -- the first chunk is flushed, and nothing is published
 abbrev held : List ℕ → ShardSums ℕ
-held cover = record { base = λ key. None; published = λ key j. None; online = λ key j. sum_at plus key j first_chunk; cover = cover; p = 0; f = 0; kept = [] }
+held cover = record { base = λ key. None; published = λ key j. None; online = λ key j. sum_at plus key j first_chunk; cover = cover; published_to = 0; floor = 0; kept = [] }
 
--- each sum is the fold over its batch and the cover, as far as the keys and batches of the job go
+-- each sum is the fold over its batch and the cover, as far as the keys and batches of the log go
 abbrev online_fold : KeyBytes → ℕ → List ℕ → Option ℕ
-online_fold key j cover = fold_of plus job key (λ i. (batch_of job i == j) && is_in cover (chunk_of job i))
+online_fold key j cover = log_fold plus log key (λ i. (batch_at (places_of log) i == j) && is_in cover (chunk_at (places_of log) i))
 
 stands_a : (held (0 ∷ [])).online a 0 ≡ online_fold a 0 (0 ∷ [])
 stands_a = refl
@@ -69,8 +70,8 @@ stands_b_before = refl
 abbrev some : ℕ → Option ℕ
 some n = Some n
 
--- with the second chunk in its cover it doesn't stand for the job: the third record is missing
-third_is_missing : AreFoldsOf 1 plus job (λ key. true) (held (0 ∷ 1 ∷ [])) → ⊥
+-- with the second chunk in its cover it doesn't stand for the log: the third record is missing
+third_is_missing : AreFoldsOf 1 plus log 0 (held (0 ∷ 1 ∷ [])) → ⊥
 third_is_missing stands = differ (stands.online a 0 (omega arith))
   where
     differ : some 2 ≡ some 3 → ⊥

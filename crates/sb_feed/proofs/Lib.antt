@@ -1,4 +1,6 @@
 pub mod KeyTies
 pub mod PartSums
 pub mod Examples
-pub mod JobValues
+pub mod LogValues
+pub mod Searched
+pub mod Meant

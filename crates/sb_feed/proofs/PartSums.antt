@@ -14,7 +14,7 @@ use Rattle.sb_feed.specs.declared.key.KeyBytes.{KeyBytes}
 use Rattle.sb_feed.specs.declared.parts.Part.{Part}
 use Rattle.sb_feed.specs.Keys.{key_order, same_key, key_order-IsAntisymmetric}
 use Rattle.sb_feed.specs.Jobs.{Dictionaries, AreValid}
-use Rattle.sb_feed.specs.Stands.{batch_value, key_values, sum_at, elements}
+use Rattle.sb_feed.specs.Stands.{batch_value, key_values, sum_at, keyed_values}
 
 -- keys with the same store and text are equal
 pub same_is_equal : (a b : KeyBytes) → same_key a b ≡ true → a ≡ b
@@ -82,23 +82,23 @@ module _ {E : Type 0} where
 
   module _ (d : Dictionaries E) where
     -- the values of a key are of its store
-    pub values_valid : (key : KeyBytes) (xs : List (Part E)) → AreValid d (elements xs) → AllByRecursion (λ x. d.valid key.store x.1) (key_values key xs)
+    pub values_valid : (key : KeyBytes) (xs : List (Part E)) → AreValid d (keyed_values xs) → AllByRecursion (λ x. d.valid key.store x.1) (key_values key xs)
     values_valid key [] h = tt
     values_valid key (x ∷ xs) h = elim (same_key key x.key) as (λ k. (same_key key x.key ≡ k) → AllByRecursion (λ (y : ℕ × E). d.valid key.store y.1) (map batch_value (cond k (x ∷ filter (λ part. same_key key part.key) xs) (filter (λ part. same_key key part.key) xs)))) [
       | true ↦ λ e. (subst (λ (k : KeyBytes). d.valid k.store x.value) (sym (same_is_equal key x.key e)) h.0.1, values_valid key xs h.1)
       | false ↦ λ e. values_valid key xs h.1
     ] refl
 
-    pub elements_append : (xs ys : List (Part E)) → AreValid d (elements xs) → AreValid d (elements ys) → AreValid d (elements (xs ++ ys))
-    elements_append [] ys h k = k
-    elements_append (x ∷ xs) ys h k = (h.0, elements_append xs ys h.1 k)
+    pub keyed_append : (xs ys : List (Part E)) → AreValid d (keyed_values xs) → AreValid d (keyed_values ys) → AreValid d (keyed_values (xs ++ ys))
+    keyed_append [] ys h k = k
+    keyed_append (x ∷ xs) ys h k = (h.0, keyed_append xs ys h.1 k)
 
-    pub elements_filter : (s : Part E → Bool) (xs : List (Part E)) → AreValid d (elements xs) → AreValid d (elements (filter s xs))
-    elements_filter s [] h = tt
-    elements_filter s (x ∷ xs) h = elim (s x) as (λ b. AreValid d (elements (cond b (x ∷ filter s xs) (filter s xs)))) [ true ↦ (h.0, elements_filter s xs h.1) | false ↦ elements_filter s xs h.1 ]
+    pub keyed_filter : (s : Part E → Bool) (xs : List (Part E)) → AreValid d (keyed_values xs) → AreValid d (keyed_values (filter s xs))
+    keyed_filter s [] h = tt
+    keyed_filter s (x ∷ xs) h = elim (s x) as (λ b. AreValid d (keyed_values (cond b (x ∷ filter s xs) (filter s xs)))) [ true ↦ (h.0, keyed_filter s xs h.1) | false ↦ keyed_filter s xs h.1 ]
 
     -- the sum of two lists in a row
-    pub sum_both : (key : KeyBytes) (j : ℕ) (xs ys : List (Part E)) → SemigroupLaws (d.valid key.store) (d.add key.store) → AreValid d (elements xs) → AreValid d (elements ys)
+    pub sum_both : (key : KeyBytes) (j : ℕ) (xs ys : List (Part E)) → SemigroupLaws (d.valid key.store) (d.add key.store) → AreValid d (keyed_values xs) → AreValid d (keyed_values ys)
         → sum_at d.add key j (xs ++ ys) ≡ both_sums (d.add key.store) (sum_at d.add key j xs) (sum_at d.add key j ys)
     sum_both key j xs ys laws h k =
         let a = d.add key.store in

@@ -1,68 +1,63 @@
 -- What a feed and a cut tell, as plain values, and the folds over it.
-use Rattle.std.specs.Prelude.{ℕ, suc, ◌+◌, ◌/◌, ◌<◌, ◌≤◌, max, Bool, ◌&&◌, ◌||◌, nat_lt, nat_le, ◌==◌, IsTrue, List, [], ◌∷◌, ◌++◌, map, Option, slice_index}
-use Rattle.std.specs.List.{list_any, AllByRecursion}
+use Rattle.std.specs.Prelude.{◌≡◌, ℕ, suc, ◌<◌, ◌≤◌, Bool, IsTrue, List, [], ◌∷◌, ◌++◌, map, length, slice_get, Option, Some, None}
+use Rattle.std.specs.List.{AllByRecursion}
 use Rattle.std.specs.FinMap.{is_sorted}
 use Rattle.sb_laws.specs.Sums.{CommutingLaws}
 use Rattle.sb_laws.specs.Folds.{fold_over}
 use Rattle.sb_laws.specs.Tables.{values_at}
 use Rattle.sb_feed.specs.declared.key.KeyBytes.{KeyBytes}
+use Rattle.sb_feed.specs.Cuts.{CutValue}
 use Rattle.sb_feed.specs.Keys.{key_order}
+use Rattle.sb_feed.specs.Limits.{last_batch}
+use Rattle.sb_feed.specs.Places.{Places}
 
 -- a record: its batch, and what it adds to keys
 pub record Record (E : Type 0) : Type 0 where
   pub batch : ℕ
   pub parts : List (KeyBytes × E)
 
--- a job: its records in log order, the number of records of a chunk, the number of shards, and the lag of a floor
-pub record Job (E : Type 0) : Type 0 where
+-- a log that is divided: its records in order, the number of records of a chunk, the number of shards, and the lag of a floor
+pub record CutLog (E : Type 0) : Type 0 where
   pub records : List (Record E)
   pub chunk : ℕ
   pub shards : ℕ
   pub lag : ℕ
 
--- one more than the greatest batch, and 0 without records
-abbrev pub batch_count : {E : Type 0} → List (Record E) → ℕ
-batch_count [] = 0
-batch_count (r ∷ records) = max (r.batch + 1) (batch_count records)
-
--- the batch of the record at a position
-abbrev pub batch_of : {E : Type 0} → Job E → ℕ → ℕ
-batch_of job i = slice_index (map (λ r. r.batch) job.records) i
-
--- the chunk of a position
-abbrev pub chunk_of : {E : Type 0} → Job E → ℕ → ℕ
-chunk_of job i = i / job.chunk
+-- where the log's records and keys go
+abbrev pub places_of : {E : Type 0} → CutLog E → Places
+places_of log = record { batches = map (λ r. r.batch) log.records; chunk = log.chunk; shards = log.shards }
 
 -- the values that records from a position on add to a key, with their positions
-abbrev pub of_key_from : {E : Type 0} → KeyBytes → ℕ → List (Record E) → List (ℕ × E)
-of_key_from key i [] = []
-of_key_from key i (r ∷ records) = map (λ value. (i, value)) (values_at key_order key r.parts) ++ of_key_from key (suc i) records
+abbrev pub values_from : {E : Type 0} → KeyBytes → ℕ → List (Record E) → List (ℕ × E)
+values_from key i [] = []
+values_from key i (r ∷ records) = map (λ value. (i, value)) (values_at key_order key r.parts) ++ values_from key (suc i) records
 
 -- the values of a key with their positions, in log order
-abbrev pub of_key : {E : Type 0} → Job E → KeyBytes → List (ℕ × E)
-of_key job key = of_key_from key 0 job.records
+abbrev pub log_values : {E : Type 0} → CutLog E → KeyBytes → List (ℕ × E)
+log_values log key = values_from key 0 log.records
 
 -- the fold of a key over the positions that pass, by the plus of the key's store
-abbrev pub fold_of : {E : Type 0} → (ℕ → E → E → E) → Job E → KeyBytes → (ℕ → Bool) → Option E
-fold_of add job key passes = fold_over (add key.store) (of_key job key) passes
+abbrev pub log_fold : {E : Type 0} → (ℕ → E → E → E) → CutLog E → KeyBytes → (ℕ → Bool) → Option E
+log_fold add log key passes = fold_over (add key.store) (log_values log key) passes
 
--- the number is one of the list's
-abbrev pub is_in : List ℕ → ℕ → Bool
-is_in numbers n = list_any (λ m. m == n) numbers
-
--- the positions of the batches up to the asked one that are published, or whose chunk is in the cover
-abbrev pub is_named : {E : Type 0} → Job E → ℕ → ℕ → List ℕ → ℕ → Bool
-is_named job asked published cover i = nat_le (batch_of job i) asked && (nat_lt (batch_of job i) published || is_in cover (chunk_of job i))
-
--- the dictionaries of stores: how many there are, and of each the valid elements and the plus
+-- what the dictionaries of stores mean: how many there are, and of each the valid elements and the plus
 pub record Dictionaries (E : Type 0) : Type 1 where
   pub stores : ℕ
   pub valid : ℕ → E → Type 0
   pub add : ℕ → E → E → E
 
--- those of a family, by the meanings of its dictionary type, its number of stores and the dictionary of each
-abbrev pub dictionaries : {M E : Type 0} → (M → E → Type 0) → (M → E → E → E) → ℕ → (ℕ → M) → Dictionaries E
-dictionaries valid add stores dictionary = record { stores = stores; valid = λ store. valid (dictionary store); add = λ store. add (dictionary store) }
+-- a dictionary that isn't there has no elements, and changes nothing
+abbrev pub valid_by : {M E : Type 0} → (M → E → Type 0) → Option M → E → Type 0
+valid_by valid None a = ⊥
+valid_by valid (Some m) a = valid m a
+
+abbrev pub add_by : {M E : Type 0} → (M → E → E → E) → Option M → E → E → E
+add_by add None a b = a
+add_by add (Some m) a b = add m a b
+
+-- what plain values mean, by the valid elements and the plus that their type gives to each
+abbrev pub meant : {M E : Type 0} → (M → E → Type 0) → (M → E → E → E) → List M → Dictionaries E
+meant valid add monoids = record { stores = length monoids; valid = λ store. valid_by valid (slice_get monoids store); add = λ store. add_by add (slice_get monoids store) }
 
 -- the dictionary of each store commutes
 abbrev pub Commute : {E : Type 0} → Dictionaries E → Type 0
@@ -74,10 +69,36 @@ AreValid d rows = AllByRecursion (λ row. (row.0.store < d.stores) × d.valid ro
 
 -- a record's batch is within the limit, and its parts are valid and have rising keys
 pub record IsRecord {E : Type 0} (d : Dictionaries E) (r : Record E) : Type 0 where
-  pub batch : r.batch ≤ 65535
+  pub batch : r.batch ≤ last_batch
   pub rising : IsTrue (is_sorted key_order r.parts)
   pub valid : AreValid d r.parts
 
--- the job is one of these dictionaries
-abbrev pub IsJobOf : {E : Type 0} → Dictionaries E → Job E → Type 0
-IsJobOf d job = AllByRecursion (IsRecord d) job.records
+-- all records of the log are records by these dictionaries
+abbrev pub IsLogOf : {E : Type 0} → Dictionaries E → CutLog E → Type 0
+IsLogOf d log = AllByRecursion (IsRecord d) log.records
+
+-- a job: the dictionary of each store as a plain value, and the log
+pub record Job (M E : Type 0) : Type 0 where
+  pub monoids : List M
+  pub log : CutLog E
+
+-- the job of these dictionaries and records, in the chunks and shards of a cut
+abbrev pub job_of : {M E : Type 0} → List M → List (Record E) → CutValue → ℕ → Job M E
+job_of monoids records cut lag = record { monoids = monoids; log = record { records = records; chunk = cut.chunk; shards = cut.shards; lag = lag } }
+
+-- what the job's dictionaries mean
+abbrev pub meaning_of : {M E : Type 0} → (M → E → Type 0) → (M → E → E → E) → Job M E → Dictionaries E
+meaning_of valid add job = meant valid add job.monoids
+
+-- a family with these dictionaries is the job's
+abbrev pub IsFamilyOf : {M E : Type 0} → List M → Job M E → Type 0
+IsFamilyOf monoids job = monoids ≡ job.monoids
+
+-- the job's dictionaries commute, and its records are records by them
+pub record IsCommuting {M E : Type 0} (valid : M → E → Type 0) (add : M → E → E → E) (job : Job M E) : Type 0 where
+  pub commute : Commute (meaning_of valid add job)
+  pub records : IsLogOf (meaning_of valid add job) job.log
+
+-- the job's fold of a key over the positions that pass
+abbrev pub job_fold : {M E : Type 0} → (M → E → E → E) → Job M E → KeyBytes → (ℕ → Bool) → Option E
+job_fold add job key passes = fold_over (add_by add (slice_get job.monoids key.store)) (log_values job.log key) passes

@@ -17,7 +17,7 @@ key_order = then_cmp (on (λ k. k.store) nat_cmp) (on (λ k. k.text) (slice_cmp 
 abbrev pub same_key : KeyBytes → KeyBytes → Bool
 same_key = eq_by_cmp key_order
 
--- FNV-1a with 64 bits: a byte is xored in, and the hash is then multiplied by the prime
+-- FNV-1a with 64 bits, after Fowler, Noll and Vo: a byte is xored in, and the hash is then multiplied by the prime
 abbrev pub fnv_1a : ℕ → List ℕ → ℕ
 fnv_1a hash [] = hash
 fnv_1a hash (byte ∷ bytes) = fnv_1a (bit_xor hash byte * 1099511628211 % 2 ^ 64) bytes

@@ -1,5 +1,7 @@
+pub mod Limits
 pub mod Keys
+pub mod Cuts
+pub mod Places
 pub mod Jobs
 pub mod Feeds
 pub mod Stands
-pub mod Cuts

@@ -1,6 +1,8 @@
+//! How records are divided into chunks and keys among shards.
 ghost use Rattle.std.specs.Prelude.{◌≡◌, ◌↔◌, ◌<◌, ◌≤◌, ℕ, ◌+◌, ◌*◌, ◌/◌, min, IsSome, IfSome};
 ghost use Rattle.sb_feed.specs.Keys.{fnv_1a, key_hash, shard_of};
 ghost use Rattle.sb_feed.specs.Cuts.{chunk_count, IsCut};
+ghost use Rattle.sb_feed.specs.Limits.{most_shards};
 
 use crate::key::KeyBytes;
 use std::marker::Model;
@@ -38,8 +40,10 @@ impl Cut {
     /// `None` exactly where a chunk has none or more than 1,048,576 records, there are no or more than 64 shards,
     /// or there would be more than 65,536 chunks.
     pub fn new(records: u64, chunk: u64, shards: u32) -> Option<Cut>
-        ensures cut { IfSome result (λ cut. cut ≡ record { records = records; chunk = chunk; shards = shards }) }
-        ensures limits { IsSome result ↔ IsCut (record { records = records; chunk = chunk; shards = shards }) }
+        ensures cut { IfSome result (λ cut. cut
+            ≡ record { records = records; chunk = chunk; shards = shards }) }
+        ensures limits { IsSome result ↔ IsCut
+            (record { records = records; chunk = chunk; shards = shards }) }
     {
         if chunk == 0 || chunk > MOST_RECORDS_OF_A_CHUNK || shards == 0 || shards > MOST_SHARDS {
             return None;
@@ -64,7 +68,7 @@ impl Cut {
     /// The number of shards.
     pub fn shards(&self) -> u32
         ensures number { result ≡ self.now.shards }
-        ensures limits { (1 ≤ result) × (result ≤ 64) }
+        ensures limits { (1 ≤ result) × (result ≤ most_shards) }
     {
         self.shards
     }
@@ -81,9 +85,14 @@ impl Cut {
     /// The chunk's first position, and the position after its last.
     pub fn bounds(&self, chunk: u64) -> (u64, u64)
         requires { chunk < chunk_count self.now }
-        ensures bounds { result ≡ (chunk * self.now.chunk, min ((chunk + 1) * self.now.chunk) self.now.records) }
+        ensures bounds { result ≡ (
+          chunk * self.now.chunk,
+          min ((chunk + 1) * self.now.chunk)
+              self.now.records,
+        ) }
         ensures some { result.0 < result.1 }
-        ensures positions { (i : ℕ) → i < self.now.records → ((result.0 ≤ i) × (i < result.1)) ↔ (i / self.now.chunk ≡ chunk) }
+        ensures positions { (i : ℕ) → i < self.now.records → ((result.0 ≤ i) × (i < result.1))
+            ↔ (i / self.now.chunk ≡ chunk) }
     {
         let from = chunk * self.chunk;
         (from, self.records.min(from + self.chunk))
@@ -106,7 +115,7 @@ fn hash(key: &KeyBytes) -> u64
     hash_onto(store, key.text.as_bytes())
 }
 
-// http://www.isthe.com/chongo/tech/comp/fnv/
+// FNV-1a (Fowler, Noll and Vo): http://www.isthe.com/chongo/tech/comp/fnv/
 fn hash_onto(hash: u64, bytes: &[u8]) -> u64
     ensures { result ≡ fnv_1a hash bytes.now }
 {

@@ -1,4 +1,6 @@
-ghost use Rattle.std.specs.Prelude.{◌≡◌, ◌<◌, ◌++◌, List, ℕ, OnOk, OnErr};
+//! The dictionaries of stores, and the texts of their elements.
+ghost use Rattle.std.specs.Prelude.{◌≡◌, ◌<◌, ◌++◌, List, ℕ, length, slice_get, Some, OnOk, OnErr};
+ghost use Rattle.sb_feed.specs.Jobs.{valid_by};
 
 use sb_laws::{NoMemory, Semigroup};
 use sb_text::Text;
@@ -8,20 +10,17 @@ use std::alloc::Global;
 pub trait Family {
     type M: Semigroup;
 
-    /// The number of stores.
-    ghost stores: { Self → ℕ };
-
-    /// The dictionary of each store.
-    ghost dictionary: { Self → ℕ → Self.M };
+    /// The dictionary of each store, as a plain value.
+    ghost monoids: { Self → List Self.M };
 
     /// The number of stores.
     fn stores(&self) -> u32
-        ensures { result ≡ stores self.now };
+        ensures { result ≡ length (monoids self.now) };
 
     /// The dictionary of a store.
     fn monoid(&self, store: u32) -> &Self::M
-        requires { store < stores self.now }
-        ensures { result.now ≡ dictionary self.now store };
+        requires { store < length (monoids self.now) }
+        ensures { slice_get (monoids self.now) store ≡ Some result.now };
 }
 
 /// A family whose stores have names and whose elements have texts.
@@ -34,10 +33,10 @@ pub trait Printed: Family {
 
     /// The name of a store.
     fn name(&self, store: u32) -> &Text
-        requires { store < Self.stores self.now }
+        requires { store < length (Self.monoids self.now) }
         ensures { result.now ≡ name self.now store };
 
-    /// Writes the text of an element at the end of `out`.
+    /// Writes the text of an element at the end of `out`. A refusal leaves `out` as it was.
     fn print(
         &self,
         alloc: Global,
@@ -45,8 +44,9 @@ pub trait Printed: Family {
         value: &<Self::M as Semigroup>::El,
         out: &mut Vec<u8>,
     ) -> Result<(), NoMemory>
-        requires store { store < Self.stores self.now }
-        requires value { Self.M.valid (Self.dictionary self.now store) value.now }
-        ensures ok { OnOk result (out.new.items ≡ out.old.items ++ printed self.now store value.now) }
+        requires store { store < length (Self.monoids self.now) }
+        requires value { valid_by Self.M.valid (slice_get (Self.monoids self.now) store) value.now }
+        ensures ok { OnOk result (out.new.items
+            ≡ out.old.items ++ printed self.now store value.now) }
         ensures err { OnErr result (out.new.items ≡ out.old.items) };
 }

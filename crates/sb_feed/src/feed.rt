@@ -1,6 +1,8 @@
-ghost use Rattle.std.specs.Prelude.{◌≡◌, ◌<◌, ◌≤◌, ◌++◌, List, map, length, slice_get, slice_index, OnOk, OnErr};
+//! The parts that the records of a log add to keys.
+ghost use Rattle.std.specs.Prelude.{◌≡◌, ◌<◌, ◌≤◌, ◌++◌, List, map, length, slice_index, OnOk, OnErr};
 ghost use Rattle.std.specs.List.{AllByRecursion};
-ghost use Rattle.sb_feed.specs.Jobs.{Record, IsRecord, dictionaries};
+ghost use Rattle.sb_feed.specs.Jobs.{Record, IsRecord, meant};
+ghost use Rattle.sb_feed.specs.Limits.{last_batch};
 ghost use Rattle.sb_feed.specs.Feeds.{parts_at};
 
 use crate::NoMemory;
@@ -17,15 +19,16 @@ pub trait Feed: Family {
     /// The number of records.
     fn len(&self) -> u64
         ensures len { result ≡ length (records self.now) }
-        ensures valid { AllByRecursion (IsRecord (dictionaries Self.M.valid Self.M.add (Self.stores self.now) (Self.dictionary self.now))) (records self.now) };
+        ensures valid { AllByRecursion (IsRecord
+            (meant Self.M.valid Self.M.add (Self.monoids self.now))) (records self.now) };
 
-    /// The batch of a record.
+    /// The batch of a record, at most 65,535.
     fn batch(&self, i: u64) -> u64
         requires { i < length (records self.now) }
         ensures batch { result ≡ slice_index (map (λ r. r.batch) (records self.now)) i }
-        ensures limit { result ≤ 65535 };
+        ensures limit { result ≤ last_batch };
 
-    /// Appends the parts of a record: each key at most once, in rising order.
+    /// Appends the parts of a record: each key at most once, in rising order. A refusal leaves `out` as it was.
     fn emit(
         &self,
         alloc: Global,

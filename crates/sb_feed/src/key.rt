@@ -1,9 +1,11 @@
+//! Keys of stores.
 ghost use Rattle.std.specs.Prelude.{◌≡◌, IfOk};
 
 use sb_laws::{Key, NoMemory};
 use sb_text::Text;
 use std::alloc::Global;
 use std::cmp::Ordering;
+use std::hash::{Hash, Hasher};
 
 /// A key of a store: the store's number and the text of the key. Ordered by store, and then by the text's bytes.
 #[derive(Debug, Drop)]
@@ -83,5 +85,22 @@ impl Key for KeyBytes {
             store: self.store,
             text,
         })
+    }
+}
+
+impl Hash for KeyBytes {
+    ghost use Rattle.std.proofs.Common.{rules};
+    ghost use Rattle.std.specs.Cmp.Rules.{comparing, hashing};
+    ghost use Rattle.std.specs.Hash as fed;
+    ghost use Rattle.std.specs.Prelude.{[], ◌∷◌, ◌++◌};
+
+    // The store's number, and then the bytes of the text in one write.
+    ghost hash_input = { λ k. fed.u32 k.store ++ k.text ∷ [] };
+
+    ghost respects_eq = { Prim.search (hashing, rules) };
+
+    fn hash<H: Hasher>(&self, state: &mut H) {
+        self.store.hash(state);
+        self.text.hash(state);
     }
 }

@@ -6,13 +6,12 @@ mod family;
 mod feed;
 mod key;
 mod parts;
+mod rows;
 
 pub use cut::Cut;
 pub use family::{Family, Printed};
 pub use feed::Feed;
 pub use key::KeyBytes;
-pub use parts::{Parcel, Part, PartList, RowList, Rows, Sums};
+pub use parts::{Parcel, Part, PartList};
+pub use rows::{RowList, Rows, Sums};
 pub use sb_laws::NoMemory;
-
-#[cfg(test)]
-mod tests;

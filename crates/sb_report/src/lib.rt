@@ -4,8 +4,6 @@
 mod line;
 mod rows;
 mod script;
-#[cfg(test)]
-mod tests;
 
 pub use line::{TranscriptLine, write_line};
 pub use rows::{report, write_row};

@@ -1,16 +1,18 @@
+//! Lines of a transcript.
 ghost use Rattle.std.specs.Prelude.{◌≡◌, ◌∷◌, ◌++◌, codes, decimal, length, take, OnOk, OnErr};
 ghost use Rattle.sb_text.specs.Ranges.{ranges_text};
 ghost use Rattle.sb_report.specs.Report.{row_text};
-ghost use Rattle.sb_report.specs.Transcript.{line_text};
+ghost use Rattle.sb_report.specs.Transcript.{line_text, NamesStore};
 
 use crate::rows::push_row_front;
+use sb_feed::Printed;
 use sb_text::{NoMemory, Ranges, Text, write_u64};
 use std::alloc::Global;
 
 /// A line of a transcript. Keys and values are the texts that are printed.
 #[derive(Debug, Drop)]
 pub enum TranscriptLine {
-    /// The value of a key over the published batches and the chunks of the cover.
+    /// The value of a key over the published batches and the chunks of the cover; `published` is at most 65,536.
     Read {
         store: u32,
         key: Text,
@@ -39,18 +41,20 @@ pub enum TranscriptLine {
     End,
 }
 
-/// Writes a line with its LF at the end of `out`; `store` is the name of the one store.
-pub fn write_line(
+/// Writes a line with its LF at the end of `out`, with the names of the family's stores. A refusal leaves `out` as it was.
+pub fn write_line<F: Printed>(
     alloc: Global,
-    store: &Text,
+    family: &F,
     line: &TranscriptLine,
     out: &mut Vec<u8>,
 ) -> Result<(), NoMemory>
-    ensures ok { OnOk result (out.new.items ≡ out.old.items ++ line_text store.now line.now) }
+    requires { NamesStore (length (F.monoids family.now)) line.now }
+    ensures ok { OnOk result (out.new.items
+        ≡ out.old.items ++ line_text (F.name family.now) line.now) }
     ensures err { OnErr result (out.new.items ≡ out.old.items) }
 {
     let before = out.len();
-    match push_line(alloc, store, line, out) {
+    match push_line(alloc, family, line, out) {
         Ok(()) => Ok(()),
         Err(e) => {
             out.truncate(before);
@@ -60,41 +64,42 @@ pub fn write_line(
 }
 
 // Each `push_` stops in the middle where it finds no memory; what stood before is there still.
-fn push_line(
+fn push_line<F: Printed>(
     alloc: Global,
-    store: &Text,
+    family: &F,
     line: &TranscriptLine,
     out: &mut Vec<u8>,
 ) -> Result<(), NoMemory>
-    ensures ok { OnOk result (out.new.items ≡ out.old.items ++ line_text store.now line.now) }
+    requires { NamesStore (length (F.monoids family.now)) line.now }
+    ensures ok { OnOk result (out.new.items
+        ≡ out.old.items ++ line_text (F.name family.now) line.now) }
     ensures front { take (length out.old.items) out.new.items ≡ out.old.items }
 {
     match line {
         TranscriptLine::Read {
-            store: _,
+            store,
             key,
             value,
             published,
             floor,
             cover,
         } => {
-            push_read(store, key, value, out)?;
+            push_read(family.name(*store), key, value, out)?;
             push_cover(alloc, *published, *floor, cover, out)
         }
         TranscriptLine::Worked { count, chunks } => push_worked(alloc, *count, chunks, out),
         TranscriptLine::Published { published } => push_published(alloc, *published, out),
         TranscriptLine::Drained => out.extend_from_slice(b"drained\n"),
-        TranscriptLine::Row {
-            store: _,
-            key,
-            value,
-        } => push_row(store, key, value, out),
+        TranscriptLine::Row { store, key, value } => {
+            push_row(family.name(*store), key, value, out)
+        }
         TranscriptLine::End => out.extend_from_slice(b"end\n"),
     }
 }
 
 fn push_read(store: &Text, key: &Text, value: &Text, out: &mut Vec<u8>) -> Result<(), NoMemory>
-    ensures ok { OnOk result (out.new.items ≡ out.old.items ++ (codes "read " ++ (store.now ++ (32 ∷ key.now ++ 32 ∷ value.now)))) }
+    ensures ok { OnOk result (out.new.items
+        ≡ out.old.items ++ (codes "read " ++ (store.now ++ (32 ∷ key.now ++ 32 ∷ value.now)))) }
     ensures front { take (length out.old.items) out.new.items ≡ out.old.items }
 {
     out.extend_from_slice(b"read ")?;
@@ -113,7 +118,10 @@ fn push_cover(
     cover: &Ranges,
     out: &mut Vec<u8>,
 ) -> Result<(), NoMemory>
-    ensures ok { OnOk result (out.new.items ≡ out.old.items ++ (codes " p=" ++ (decimal published ++ (codes " f=" ++ (decimal floor ++ (codes " c=" ++ (ranges_text cover.now ++ codes "\n"))))))) }
+    ensures ok { OnOk result (out.new.items
+        ≡ out.old.items ++ (codes " p=" ++ (decimal published
+        ++ (codes " f=" ++ (decimal floor ++ (codes " c="
+        ++ (ranges_text cover.now ++ codes "\n"))))))) }
     ensures front { take (length out.old.items) out.new.items ≡ out.old.items }
 {
     out.extend_from_slice(b" p=")?;
@@ -131,7 +139,9 @@ fn push_worked(
     chunks: &Ranges,
     out: &mut Vec<u8>,
 ) -> Result<(), NoMemory>
-    ensures ok { OnOk result (out.new.items ≡ out.old.items ++ (codes "worked " ++ (decimal count ++ (32 ∷ ranges_text chunks.now ++ codes "\n")))) }
+    ensures ok { OnOk result (out.new.items
+        ≡ out.old.items ++ (codes "worked " ++ (decimal count
+        ++ (32 ∷ ranges_text chunks.now ++ codes "\n")))) }
     ensures front { take (length out.old.items) out.new.items ≡ out.old.items }
 {
     out.extend_from_slice(b"worked ")?;
@@ -142,7 +152,8 @@ fn push_worked(
 }
 
 fn push_published(alloc: Global, published: u64, out: &mut Vec<u8>) -> Result<(), NoMemory>
-    ensures ok { OnOk result (out.new.items ≡ out.old.items ++ (codes "published " ++ (decimal published ++ codes "\n"))) }
+    ensures ok { OnOk result (out.new.items
+        ≡ out.old.items ++ (codes "published " ++ (decimal published ++ codes "\n"))) }
     ensures front { take (length out.old.items) out.new.items ≡ out.old.items }
 {
     out.extend_from_slice(b"published ")?;
@@ -151,7 +162,8 @@ fn push_published(alloc: Global, published: u64, out: &mut Vec<u8>) -> Result<()
 }
 
 fn push_row(store: &Text, key: &Text, value: &Text, out: &mut Vec<u8>) -> Result<(), NoMemory>
-    ensures ok { OnOk result (out.new.items ≡ out.old.items ++ row_text store.now key.now value.now) }
+    ensures ok { OnOk result (out.new.items
+        ≡ out.old.items ++ row_text store.now key.now value.now) }
     ensures front { take (length out.old.items) out.new.items ≡ out.old.items }
 {
     push_row_front(store, key, out)?;

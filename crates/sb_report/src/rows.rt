@@ -1,6 +1,7 @@
-ghost use Rattle.std.specs.Prelude.{◌≡◌, ◌<◌, [], ◌∷◌, ◌++◌, length, take, OnOk, OnErr};
+//! Rows of a report.
+ghost use Rattle.std.specs.Prelude.{◌≡◌, ◌<◌, [], ◌∷◌, ◌++◌, length, slice_get, take, OnOk, OnErr};
 ghost use Rattle.std.specs.List.{flat_map};
-ghost use Rattle.sb_feed.specs.Jobs.{AreValid, dictionaries};
+ghost use Rattle.sb_feed.specs.Jobs.{AreValid, meant, valid_by};
 ghost use Rattle.sb_report.specs.Report.{printed_row};
 
 use sb_feed::{KeyBytes, Printed, Rows};
@@ -16,8 +17,10 @@ pub fn report<F: Printed>(
     rows: &Rows<<F::M as Semigroup>::El>,
     out: &mut Vec<u8>,
 ) -> Result<(), NoMemory>
-    requires { AreValid (dictionaries F.M.valid F.M.add (F.stores family.now) (F.dictionary family.now)) rows.now.rows }
-    ensures ok { OnOk result (out.new.items ≡ out.old.items ++ flat_map (printed_row (F.name family.now) (F.printed family.now)) rows.now.rows) }
+    requires { AreValid (meant F.M.valid F.M.add (F.monoids family.now)) rows.now.rows }
+    ensures ok { OnOk result (out.new.items
+        ≡ out.old.items ++ flat_map (printed_row (F.name family.now) (F.printed family.now))
+        rows.now.rows) }
     ensures err { OnErr result (out.new.items ≡ out.old.items) }
 {
     let before = out.len();
@@ -38,9 +41,11 @@ pub fn write_row<F: Printed>(
     value: &<F::M as Semigroup>::El,
     out: &mut Vec<u8>,
 ) -> Result<(), NoMemory>
-    requires store { key.now.store < F.stores family.now }
-    requires value { F.M.valid (F.dictionary family.now key.now.store) value.now }
-    ensures ok { OnOk result (out.new.items ≡ out.old.items ++ printed_row (F.name family.now) (F.printed family.now) (key.now, value.now)) }
+    requires store { key.now.store < length (F.monoids family.now) }
+    requires value { valid_by F.M.valid (slice_get (F.monoids family.now) key.now.store) value.now }
+    ensures ok { OnOk result (out.new.items
+        ≡ out.old.items ++ printed_row (F.name family.now) (F.printed family.now)
+        (key.now, value.now)) }
     ensures err { OnErr result (out.new.items ≡ out.old.items) }
 {
     let before = out.len();
@@ -60,8 +65,10 @@ fn push_rows<F: Printed>(
     rows: &[(KeyBytes, <F::M as Semigroup>::El)],
     out: &mut Vec<u8>,
 ) -> Result<(), NoMemory>
-    requires { AreValid (dictionaries F.M.valid F.M.add (F.stores family.now) (F.dictionary family.now)) rows.now }
-    ensures ok { OnOk result (out.new.items ≡ out.old.items ++ flat_map (printed_row (F.name family.now) (F.printed family.now)) rows.now) }
+    requires { AreValid (meant F.M.valid F.M.add (F.monoids family.now)) rows.now }
+    ensures ok { OnOk result (out.new.items
+        ≡ out.old.items ++ flat_map (printed_row (F.name family.now) (F.printed family.now))
+        rows.now) }
     ensures front { take (length out.old.items) out.new.items ≡ out.old.items }
 {
     for row in rows {
@@ -77,9 +84,11 @@ fn push_row<F: Printed>(
     value: &<F::M as Semigroup>::El,
     out: &mut Vec<u8>,
 ) -> Result<(), NoMemory>
-    requires store { key.now.store < F.stores family.now }
-    requires value { F.M.valid (F.dictionary family.now key.now.store) value.now }
-    ensures ok { OnOk result (out.new.items ≡ out.old.items ++ printed_row (F.name family.now) (F.printed family.now) (key.now, value.now)) }
+    requires store { key.now.store < length (F.monoids family.now) }
+    requires value { valid_by F.M.valid (slice_get (F.monoids family.now) key.now.store) value.now }
+    ensures ok { OnOk result (out.new.items
+        ≡ out.old.items ++ printed_row (F.name family.now) (F.printed family.now)
+        (key.now, value.now)) }
     ensures front { take (length out.old.items) out.new.items ≡ out.old.items }
 {
     push_row_front(family.name(key.store), &key.text, out)?;
@@ -89,7 +98,8 @@ fn push_row<F: Printed>(
 
 // What stands before the value of a row.
 pub(crate) fn push_row_front(store: &Text, key: &Text, out: &mut Vec<u8>) -> Result<(), NoMemory>
-    ensures ok { OnOk result (out.new.items ≡ out.old.items ++ (store.now ++ (9 ∷ key.now ++ 9 ∷ []))) }
+    ensures ok { OnOk result (out.new.items
+        ≡ out.old.items ++ (store.now ++ (9 ∷ key.now ++ 9 ∷ []))) }
     ensures front { take (length out.old.items) out.new.items ≡ out.old.items }
 {
     out.extend_from_slice(store.as_bytes())?;

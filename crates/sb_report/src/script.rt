@@ -1,12 +1,16 @@
+//! Scripts: what their lines ask.
 ghost use Rattle.std.specs.Prelude.{◌≡◌, ℕ, [], ◌∷◌, true, false, Some, None, IfOk, option_map, if◌then◌else◌};
+ghost use Rattle.std.specs.List.{AllByRecursion};
 ghost use Rattle.std.specs.Str.{bytes_eq};
 ghost use Rattle.sb_text.specs.Decimal.{natural};
 ghost use Rattle.sb_text.specs.Lines.{line_view};
+ghost use Rattle.sb_report.specs.Limits.{most_asked};
 ghost use Rattle.sb_report.specs.declared.script.Ask.{Ask as AskOf};
-ghost use Rattle.sb_report.specs.Script.{ReadsScript, script_of, ask_of, ask_in, read_in, number_in, is_key_text};
+ghost use Rattle.sb_report.specs.Script.{ReadsScript, AsksOf, script_of, ask_of, ask_in, read_in, number_in, is_key_text};
 
 use sb_text::{Columns, Line, Lines, NoMemory, Text, read_i64, read_u64, unescape};
 use std::alloc::Global;
+use thiserror::Error;
 
 const BLANK: u8 = b' ';
 
@@ -28,9 +32,11 @@ pub enum Ask {
 }
 
 /// Why a script isn't read: its first bad line, from 1, or want of memory.
-#[derive(Clone, Copy, Debug, PartialEq, Eq)]
+#[derive(Clone, Copy, Debug, PartialEq, Eq, Error)]
 pub enum ScriptError {
+    #[error("line {line} of the script asks nothing")]
     BadLine { line: u64 },
+    #[error("out of memory")]
     NoMemory,
 }
 
@@ -45,8 +51,21 @@ impl From<NoMemory> for ScriptError {
     }
 }
 
-/// The asks of a script for a store of this name, whose keys are ints where `number` is set and else texts.
+/// The asks of a script for a store of this name, whose keys are ints where `number` is set and else texts. The store has
+/// the number 0.
 pub fn read_script(
+    alloc: Global,
+    store: &Text,
+    number: bool,
+    bytes: &[u8],
+) -> Result<Vec<Ask>, ScriptError>
+    ensures read { ReadsScript (script_of store.now number bytes.now) result }
+    ensures stores { IfOk result (λ asks. AllByRecursion (AsksOf 1) asks.items) }
+{
+    read_lines(alloc, store, number, bytes)
+}
+
+fn read_lines(
     alloc: Global,
     store: &Text,
     number: bool,
@@ -159,7 +178,7 @@ fn read_number(words: &mut Columns<'_>) -> Option<u64>
 }
 
 fn read_up_to_limit(bytes: &[u8]) -> Option<u64>
-    ensures { result ≡ natural 65536 bytes.now }
+    ensures { result ≡ natural most_asked bytes.now }
 {
     let number = read_u64(bytes)?;
     if number <= NUMBER_LIMIT {
@@ -171,7 +190,8 @@ fn read_up_to_limit(bytes: &[u8]) -> Option<u64>
 
 // A key's text is canonical: what it spells is printed as the same bytes.
 fn read_key(alloc: Global, number: bool, key: &[u8]) -> Result<Option<Text>, NoMemory>
-    ensures { IfOk result (λ text. text ≡ (if is_key_text number key.now then Some key.now else None)) }
+    ensures { IfOk result (λ text. text ≡ (if is_key_text number key.now then Some key.now else
+        None)) }
 {
     if number {
         return read_int_key(alloc, key);
@@ -180,7 +200,8 @@ fn read_key(alloc: Global, number: bool, key: &[u8]) -> Result<Option<Text>, NoM
 }
 
 fn read_int_key(alloc: Global, key: &[u8]) -> Result<Option<Text>, NoMemory>
-    ensures { IfOk result (λ text. text ≡ (if is_key_text true key.now then Some key.now else None)) }
+    ensures { IfOk result (λ text. text ≡ (if is_key_text true key.now then Some key.now else
+        None)) }
 {
     let Some(int) = read_i64(key) else {
         return Ok(None);
@@ -190,7 +211,8 @@ fn read_int_key(alloc: Global, key: &[u8]) -> Result<Option<Text>, NoMemory>
 }
 
 fn read_text_key(alloc: Global, key: &[u8]) -> Result<Option<Text>, NoMemory>
-    ensures { IfOk result (λ text. text ≡ (if is_key_text false key.now then Some key.now else None)) }
+    ensures { IfOk result (λ text. text ≡ (if is_key_text false key.now then Some key.now else
+        None)) }
 {
     let Some(text) = unescape(alloc, key)? else {
         return Ok(None);

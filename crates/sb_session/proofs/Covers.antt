@@ -6,7 +6,7 @@ use Rattle.std.proofs.lemmas.Bool.{lt-ltb, le-ltb, ltb-true, ltb-false, leb-true
 use Rattle.std.proofs.Math.Nat.{le-div_iff_mul-le}
 use Rattle.sb_text.specs.Ranges.{put, union}
 use Rattle.sb_laws.proofs.Positions.{ap_both}
-use Rattle.sb_feed.specs.Jobs.{is_in}
+use Rattle.sb_feed.specs.Places.{is_in}
 use Rattle.sb_session.specs.Emitted.{is_between}
 
 pub range_append : (a n b m k : ℕ) → b ≡ a + n → k ≡ n + m → range_with_len a n ++ range_with_len b m ≡ range_with_len a k

@@ -9,7 +9,8 @@ use Rattle.sb_laws.proofs.Positions.{ap_both}
 use Rattle.sb_feed.specs.declared.key.KeyBytes.{KeyBytes}
 use Rattle.sb_feed.specs.declared.parts.Part.{Part}
 use Rattle.sb_feed.specs.Feeds.{parts_of, parts_at}
-use Rattle.sb_feed.specs.Jobs.{Record, batch_count, of_key_from}
+use Rattle.sb_feed.specs.Places.{batch_count}
+use Rattle.sb_feed.specs.Jobs.{Record, values_from}
 use Rattle.sb_feed.specs.Keys.{key_order, same_key}
 use Rattle.sb_feed.specs.Stands.{batch_value, key_values}
 use Rattle.sb_feed.proofs.PartSums.{values_append}
@@ -117,36 +118,36 @@ module _ {E : Type 0} where
 
   -- the values of a key in the parts at the positions that pass
   pub values_where : (key : KeyBytes) (passes : ℕ → Bool) (b : ℕ → ℕ) (i : ℕ) (records : List (Record E)) → HaveBatches b i records
-      → key_values key (parts_where passes i records) ≡ map (λ (x : ℕ × E). (b x.0, x.1)) (filter (λ x. passes x.0) (of_key_from key i records))
+      → key_values key (parts_where passes i records) ≡ map (λ (x : ℕ × E). (b x.0, x.1)) (filter (λ x. passes x.0) (values_from key i records))
   values_where key passes b i [] h = refl
   values_where key passes b i (r ∷ records) h =
       let first : List (ℕ × E) = map (λ value. (i, value)) (values_at key_order key r.parts) in
       let test : ℕ × E → Bool = λ x. passes x.0 in
       values_append key (cond (passes i) (parts_of r) []) (parts_where passes (suc i) records)
       ∙ (ap_both ◌++◌ (here key passes b i r h.0) (values_where key passes b (suc i) records h.1)
-      ∙ (sym (map-append (λ (x : ℕ × E). (b x.0, x.1)) (filter test first) (filter test (of_key_from key (suc i) records)))
-      ∙ ap (map (λ (x : ℕ × E). (b x.0, x.1))) (sym (filter-append test first (of_key_from key (suc i) records)))))
+      ∙ (sym (map-append (λ (x : ℕ × E). (b x.0, x.1)) (filter test first) (filter test (values_from key (suc i) records)))
+      ∙ ap (map (λ (x : ℕ × E). (b x.0, x.1))) (sym (filter-append test first (values_from key (suc i) records)))))
 
 -- one more than the greatest batch of one record more
-pub count_suc : {E : Type 0} (i : ℕ) (records : List (Record E)) → i < length records → batch_count (take (suc i) records) ≡ max (batch_count (take i records)) (slice_index (map (λ r. r.batch) records) i + 1)
+pub count_suc : (i : ℕ) (batches : List ℕ) → i < length batches → batch_count (take (suc i) batches) ≡ max (batch_count (take i batches)) (slice_index batches i + 1)
 count_suc i [] less = absurd (omega (arith, less))
-count_suc zero (r ∷ records) less = omega arith
-count_suc (suc i) (r ∷ records) less = ap (max (r.batch + 1)) (count_suc i records (omega (arith, less))) ∙ omega arith
+count_suc zero (b ∷ batches) less = omega arith
+count_suc (suc i) (b ∷ batches) less = ap (max (b + 1)) (count_suc i batches (omega (arith, less))) ∙ omega arith
 
 -- the greater of two numbers, which are within a limit
-pub record IsCounted {E : Type 0} (i count : ℕ) (records : List (Record E)) : Type 0 where
-  pub is : count ≡ batch_count (take i records)
+pub record IsCounted (i count : ℕ) (batches : List ℕ) : Type 0 where
+  pub is : count ≡ batch_count (take i batches)
   pub limit : count ≤ 65536
 
-pub counted_next : {E : Type 0} (i j count batch next : ℕ) (records : List (Record E)) → i < length records → j ≡ suc i → IsCounted i count records
-    → batch ≡ slice_index (map (λ r. r.batch) records) i → batch ≤ 65535 → next ≡ max count (batch + 1) → IsCounted j next records
-counted_next i j count batch next records less e before there limit new = record {
-  is = new ∙ (ap_both (λ a b. max a (b + 1)) before.is there ∙ (sym (count_suc i records less) ∙ ap (λ n. batch_count (take n records)) (sym e)));
+pub counted_next : (i j count batch next : ℕ) (batches : List ℕ) → i < length batches → j ≡ suc i → IsCounted i count batches
+    → batch ≡ slice_index batches i → batch ≤ 65535 → next ≡ max count (batch + 1) → IsCounted j next batches
+counted_next i j count batch next batches less e before there limit new = record {
+  is = new ∙ (ap_both (λ a b. max a (b + 1)) before.is there ∙ (sym (count_suc i batches less) ∙ ap (λ n. batch_count (take n batches)) (sym e)));
   limit = omega (arith, new, limit, before.limit);
 }
 
-pub counted_all : {E : Type 0} (i count : ℕ) (records : List (Record E)) → length records ≤ i → IsCounted i count records → count ≡ batch_count records
-counted_all i count records end counted = counted.is ∙ ap batch_count (take_all i records end)
+pub counted_all : (i count : ℕ) (batches : List ℕ) → length batches ≤ i → IsCounted i count batches → count ≡ batch_count batches
+counted_all i count batches end counted = counted.is ∙ ap batch_count (take_all i batches end)
   where
     take_all : {A : Type 0} (i : ℕ) (xs : List A) → length xs ≤ i → take i xs ≡ xs
     take_all zero [] end = refl

@@ -1,5 +1,4 @@
 pub mod Covers
 pub mod Emitted
-pub mod KeySums
 pub mod Over
 pub mod Sessions

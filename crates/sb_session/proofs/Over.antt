@@ -14,20 +14,21 @@ use Rattle.sb_laws.proofs.Positions.{ap_both, fold_valid}
 use Rattle.sb_laws.proofs.Sums.{valid_append}
 use Rattle.sb_feed.specs.declared.key.KeyBytes.{KeyBytes}
 use Rattle.sb_feed.specs.declared.parts.Parcel.{Parcel}
-use Rattle.sb_feed.specs.declared.parts.Rows.{Rows}
+use Rattle.sb_feed.specs.declared.rows.Rows.{Rows}
 use Rattle.sb_feed.specs.Cuts.{CutValue, chunk_count}
-use Rattle.sb_feed.specs.Jobs.{Record, Job, Dictionaries, Commute, AreValid, IsRecord, batch_count, batch_of, chunk_of, of_key, fold_of, is_in, is_named}
-use Rattle.sb_feed.specs.Stands.{ShardSums, AreFoldsOf, StandsBy, HasSums, elements}
-use Rattle.sb_feed.proofs.JobValues.{of_key_valid}
+use Rattle.sb_feed.specs.Places.{batch_count, batch_at, chunk_at, is_of_shard, is_in, is_named}
+use Rattle.sb_feed.specs.Jobs.{Record, CutLog, Job, Dictionaries, meant, Commute, AreValid, IsRecord, places_of, log_values, job_fold}
+use Rattle.sb_feed.specs.Stands.{AreFoldsOf, keyed_values}
+use Rattle.sb_feed.proofs.LogValues.{log_values_valid}
 use Rattle.sb_shard.specs.declared.answer.Answer.{Answer}
-use Rattle.sb_shard.specs.Shards.{Held, shard_sums, cover_of, kept_by}
+use Rattle.sb_shard.specs.Shards.{ShardValue, shard_sums, cover_of, kept_by}
 use Rattle.sb_shard.specs.Events.{FlushKeeps, InstallKeeps, KeepsOnly}
 use Rattle.sb_shard.specs.Asks.{Answers, values_of, one_or_none, MakesNamed, AreDrained}
 use Rattle.sb_session.specs.Emitted.{parts_where, is_between}
-use Rattle.sb_session.specs.Sessions.{SessionValue, job_by, all_keys, IsOver, published_by, read_fold, AreAllRows}
-use Rattle.sb_session.specs.Sums.{AreKeySums}
+use Rattle.sb_session.specs.Sessions.{SessionValue, job_by, IsOver, published_by, read_fold, AreAllRows}
+use Rattle.sb_job.specs.Sums.{AreKeySums}
 use Rattle.sb_session.proofs.Covers.{union_next, in_chunks, in_range}
-use Rattle.sb_session.proofs.Sessions.{is_parcel, are_rows, fold_where}
+use Rattle.sb_session.proofs.Sessions.{of_one_shard, is_parcel, are_rows, fold_where}
 
 at_place : {A : Type 0} (P : A → Type 0) (xs : List A) (x d : A) (k : ℕ) → k < length xs → slice_index_or xs k d ≡ x → AllByRecursion P xs → P x
 at_place P [] x d k less e h = absurd (omega (arith, less))
@@ -63,12 +64,19 @@ batch_limit d [] k h less = absurd (omega (arith, less))
 batch_limit d (r ∷ records) zero h less = h.0.batch
 batch_limit d (r ∷ records) (suc k) h less = batch_limit d records k h.1 (omega (arith, less))
 
-module _ {E : Type 0} (d : Dictionaries E) (records : List (Record E)) where
-  pub over_new : (held : Held E) (cut : CutValue) (batches : ℕ) → AllByRecursion (IsRecord d) records → cut.records ≡ length records → batches ≡ batch_count records
-      → AreFoldsOf d.stores d.add (job_by records cut) all_keys (shard_sums d.add held) → kept_by held ≡ [] → cover_of held ≡ [] → IsOver d records (record { shard = held; cut = cut; batches = batches; worked = 0 })
-  over_new held cut batches valid length' count folds kept cover = record {
-    job = valid;
+module _ {M E : Type 0} (valid : M → E → Type 0) (add : M → E → E → E) (monoids : List M) (records : List (Record E)) where
+  abbrev d : Dictionaries E
+  d = meant valid add monoids
+
+  abbrev job : CutValue → Job M E
+  job cut = job_by monoids records cut
+
+  pub over_new : (held : ShardValue E) (cut : CutValue) (batches : ℕ) → AllByRecursion (IsRecord d) records → cut.shards ≡ 1 → cut.records ≡ length records → batches ≡ batch_count (map (λ r. r.batch) records)
+      → AreFoldsOf d.stores d.add (job cut).log 0 (shard_sums d.add held) → kept_by held ≡ [] → cover_of held ≡ [] → IsOver valid add monoids records (record { shard = held; cut = cut; batches = batches; worked = 0 })
+  over_new held cut batches records' one length' count folds kept cover = record {
+    job = records';
     length = length';
+    one = one;
     batches = count;
     worked = omega arith;
     stands = record { folds = folds; valid = subst (AreValid d) (sym kept) tt };
@@ -76,39 +84,38 @@ module _ {E : Type 0} (d : Dictionaries E) (records : List (Record E)) where
   }
 
   -- the next chunks are flushed
-  pub over_flushed : (before : SessionValue E) (after : Held E) (upto from to : ℕ) (parcel : Parcel E) → Commute d → IsOver d records before → 0 < before.cut.chunk → before.worked < upto → upto ≤ chunk_count before.cut
+  pub over_flushed : (before : SessionValue E) (after : ShardValue E) (upto from to : ℕ) (parcel : Parcel E) → Commute d → IsOver valid add monoids records before → 0 < before.cut.chunk → before.worked < upto → upto ≤ chunk_count before.cut
       → from ≡ before.worked * before.cut.chunk → to ≡ min (upto * before.cut.chunk) before.cut.records → parcel.chunks ≡ range_with_len before.worked (upto - before.worked)
-      → parcel.parts ≡ parts_where (is_between from to) 0 records → FlushKeeps d parcel before.shard after → cover_of after ≡ union (cover_of before.shard) parcel.chunks
-      → IsOver d records (record { shard = after; cut = before.cut; batches = before.batches; worked = upto })
+      → parcel.parts ≡ parts_where (is_between from to) 0 records → FlushKeeps valid add monoids parcel before.shard after → cover_of after ≡ union (cover_of before.shard) parcel.chunks
+      → IsOver valid add monoids records (record { shard = after; cut = before.cut; batches = before.batches; worked = upto })
   over_flushed before after upto from to parcel commute over some less most e f chunks parts keeps cover = record {
     job = over.job;
     length = over.length;
+    one = over.one;
     batches = over.batches;
     worked = most;
-    stands = keeps job all_keys commute over.job (subst (λ c. IsParcel c) (sym chunks) stands) over.stands;
+    stands = keeps (job before.cut) 0 refl (record { commute = commute; records = over.job }) (subst (λ c. IsParcel c) (sym chunks) stands) over.stands;
     cover = cover ∙ (ap_both union over.cover chunks ∙ union_next before.worked (upto - before.worked) upto (omega (arith, less)));
   } where
-    job : Job E
-    job = job_by records before.cut
-
     IsParcel : List ℕ → Type 0
-    IsParcel c = Rattle.sb_feed.specs.Stands.IsParcelOf d job all_keys (record { chunks = c; parts = parcel.parts })
+    IsParcel c = Rattle.sb_feed.specs.Stands.IsParcelOf d (job before.cut).log 0 (record { chunks = c; parts = parcel.parts })
 
     stands : IsParcel (range_with_len before.worked (upto - before.worked))
-    stands = is_parcel d job (is_between from to) (range_with_len before.worked (upto - before.worked)) parcel.parts over.job parts
+    stands = is_parcel d (job before.cut).log (is_between from to) (range_with_len before.worked (upto - before.worked)) parcel.parts over.job over.one parts
         (λ i there. in_chunks before.worked upto before.cut.chunk (length records) from to (upto - before.worked) i some there e (f ∙ ap (min (upto * before.cut.chunk)) over.length) (omega (arith, less)))
 
   -- the next batch is published
-  pub over_published : (before : SessionValue E) (after : Held E) (rows : Rows E) → IsOver d records before → published_by before < before.batches → rows.from ≡ published_by before → rows.to ≡ published_by before + 1
-      → AreKeySums d (elements (parts_where (λ i. slice_index (map (λ r. r.batch) records) i == published_by before) 0 records)) rows.rows → InstallKeeps rows before.shard after → KeepsOnly rows before.shard after
-      → cover_of after ≡ cover_of before.shard → IsOver d records (record { shard = after; cut = before.cut; batches = before.batches; worked = before.worked })
+  pub over_published : (before : SessionValue E) (after : ShardValue E) (rows : Rows E) → IsOver valid add monoids records before → published_by before < before.batches → rows.from ≡ published_by before → rows.to ≡ published_by before + 1
+      → AreKeySums d (keyed_values (parts_where (λ i. slice_index (map (λ r. r.batch) records) i == published_by before) 0 records)) rows.rows → InstallKeeps rows before.shard after → KeepsOnly rows before.shard after
+      → cover_of after ≡ cover_of before.shard → IsOver valid add monoids records (record { shard = after; cut = before.cut; batches = before.batches; worked = before.worked })
   over_published before after rows over below from to sums keeps only cover = record {
     job = over.job;
     length = over.length;
+    one = over.one;
     batches = over.batches;
     worked = over.worked;
     stands = record {
-      folds = keeps d.stores d.add (job_by records before.cut) all_keys (are_rows d (job_by records before.cut) rows.from rows.to rows.rows (omega (arith, from, to)) (subst (λ p. AreKeySums d (elements (parts_where (λ i. slice_index (map (λ r. r.batch) records) i == p) 0 records)) rows.rows) (sym from) sums))
+      folds = keeps d.stores d.add (job before.cut).log 0 (are_rows d (job before.cut).log rows.from rows.to rows.rows (omega (arith, from, to)) over.one (subst (λ p. AreKeySums d (keyed_values (parts_where (λ i. slice_index (map (λ r. r.batch) records) i == p) 0 records)) rows.rows) (sym from) sums))
           (omega (arith, below, over.batches)) over.stands.folds;
       valid = each_contained _ (kept_by after) (λ row held. either row (only row held));
     };
@@ -122,48 +129,48 @@ module _ {E : Type 0} (d : Dictionaries E) (records : List (Record E)) where
     either row (inr c) = at_place P rows.rows row row c.0 c.1 c.2 sums.valid
 
   -- the values that a shard answers are valid
-  pub answered_valid : (session : SessionValue E) (key : KeyBytes) (upto : ℕ) (answer : Answer E) → IsOver d records session → key.store < d.stores → SemigroupLaws (d.valid key.store) (d.add key.store)
-      → Answers (d.valid key.store) (shard_sums d.add session.shard) key upto answer → AllByRecursion (d.valid key.store) (values_of answer)
+  pub answered_valid : (session : SessionValue E) (key : KeyBytes) (upto : ℕ) (answer : Answer E) → IsOver valid add monoids records session → key.store < d.stores → SemigroupLaws (d.valid key.store) (d.add key.store)
+      → Answers d session.shard key upto answer → AllByRecursion (d.valid key.store) (values_of answer)
   answered_valid session key upto answer over there laws answers =
       valid_append (d.valid key.store) (one_or_none answer.base) _
       (one_valid (d.valid key.store) answer.base (subst (IsValid (d.valid key.store)) (sym (answers.base ∙ over.stands.folds.base key there))
-      (fold_valid (d.valid key.store) (d.add key.store) laws (of_key (job_by records session.cut) key) _ (of_key_valid d key (job_by records session.cut) over.job))))
+      (fold_valid (d.valid key.store) (d.add key.store) laws (log_values (job session.cut).log key) _ (log_values_valid d key (job session.cut).log over.job))))
       (valid_append (d.valid key.store) (map (λ pair. pair.1) answer.published) (map (λ pair. pair.1) answer.online)
       (seconds_valid (d.valid key.store) answer.published answers.published.valid) (seconds_valid (d.valid key.store) answer.online answers.online.valid))
 
   -- a read gives the fold over what it names
-  pub read_is_fold : (session : SessionValue E) (key : KeyBytes) (upto : ℕ) (values : List E) (value : Option E) → Commute d → IsOver d records session → MakesNamed d session.shard key upto values → value ≡ sum_of (d.add key.store) values
-      → value ≡ read_fold d (job_by records session.cut) key upto (published_by session) session.worked
+  pub read_is_fold : (session : SessionValue E) (key : KeyBytes) (upto : ℕ) (values : List E) (value : Option E) → Commute d → IsOver valid add monoids records session → MakesNamed valid add monoids session.shard key upto values → value ≡ sum_of (d.add key.store) values
+      → value ≡ read_fold add (job session.cut) key upto (published_by session) session.worked
   read_is_fold session key upto values value commute over makes is =
-      is ∙ (makes (job_by records session.cut) all_keys commute over.job refl over.stands
-      ∙ ap (λ cover. fold_of d.add (job_by records session.cut) key (is_named (job_by records session.cut) upto (published_by session) cover)) over.cover)
+      is ∙ (makes (job session.cut) 0 refl (record { commute = commute; records = over.job }) (of_one_shard (places_of (job session.cut).log) key over.one) over.stands
+      ∙ ap (λ cover. job_fold add (job session.cut) key (is_named (places_of (job session.cut).log) upto (published_by session) cover)) over.cover)
 
   -- once all chunks are worked, the shard's rows are the folds over the whole log
-  pub drained : (session : SessionValue E) (p : ℕ) (cover : List ℕ) (rows : List (KeyBytes × E)) → 0 < session.cut.chunk → IsOver d records session → session.worked ≡ chunk_count session.cut → cover ≡ range_with_len 0 session.worked
-      → AreDrained d (job_by records session.cut) all_keys p cover rows → AreAllRows d (job_by records session.cut) rows
+  pub drained : (session : SessionValue E) (p : ℕ) (cover : List ℕ) (rows : List (KeyBytes × E)) → 0 < session.cut.chunk → IsOver valid add monoids records session → session.worked ≡ chunk_count session.cut → cover ≡ range_with_len 0 session.worked
+      → AreDrained valid add (job session.cut) 0 p cover rows → AreAllRows valid add (job session.cut) rows
   drained session p cover rows some over all is drain = record {
-    rising = drain.rising;
-    valid = drain.valid;
-    sums = λ key there. drain.sums key there ∙ fold_where (d.add key.store) job key (λ i. true && is_named job 65535 p cover i) (λ i. true) (λ k less. named k less);
+    elements = drain.elements;
+    sums = λ key there. drain.sums key there ∙ fold_where (d.add key.store) log key (λ i. is_of_shard (places_of log) 0 key && is_named (places_of log) 65535 p cover i) (λ i. true)
+        (λ k less. ap (λ o. o && is_named (places_of log) 65535 p cover k) (of_one_shard (places_of log) key over.one) ∙ named k less);
   } where
-    job : Job E
-    job = job_by records session.cut
+    log : CutLog E
+    log = (job session.cut).log
 
     or_true : (x y : Bool) → y ≡ true → (x || y) ≡ true
     or_true true y e = refl
     or_true false y e = e
 
-    named : (k : ℕ) → k < length records → (true && (nat_le (batch_of job k) 65535 && (nat_lt (batch_of job k) p || is_in cover (chunk_of job k)))) ≡ true
+    named : (k : ℕ) → k < length records → (true && (nat_le (batch_at (places_of log) k) 65535 && (nat_lt (batch_at (places_of log) k) p || is_in cover (chunk_at (places_of log) k)))) ≡ true
     named k less =
         ap_both (λ a b. true && (a && b)) (le-leb _ _ (batch_limit d records k over.job less))
-        (or_true (nat_lt (batch_of job k) p) _ (ap (λ c. is_in c (chunk_of job k)) is
-        ∙ (in_range 0 session.worked session.worked (chunk_of job k) (omega arith)
-        ∙ ap_both ◌&&◌ (le-leb 0 (chunk_of job k) (omega arith)) (lt-ltb (chunk_of job k) session.worked (subst (λ n. chunk_of job k < n) (sym all) (subst (λ n. chunk_of job k < div_ceil n session.cut.chunk) (sym over.length) (in_a_chunk k (length records) session.cut.chunk some less)))))))
+        (or_true (nat_lt (batch_at (places_of log) k) p) _ (ap (λ c. is_in c (chunk_at (places_of log) k)) is
+        ∙ (in_range 0 session.worked session.worked (chunk_at (places_of log) k) (omega arith)
+        ∙ ap_both ◌&&◌ (le-leb 0 (chunk_at (places_of log) k) (omega arith)) (lt-ltb (chunk_at (places_of log) k) session.worked (subst (λ n. chunk_at (places_of log) k < n) (sym all) (subst (λ n. chunk_at (places_of log) k < div_ceil n session.cut.chunk) (sym over.length) (in_a_chunk k (length records) session.cut.chunk some less)))))))
 
   -- a log has at most 65,536 batches
-  pub few_batches : (session : SessionValue E) → IsOver d records session → session.batches ≤ 65536
+  pub few_batches : (session : SessionValue E) → IsOver valid add monoids records session → session.batches ≤ 65536
   few_batches session over = let few = limit records over.job in omega (arith, over.batches, few)
     where
-      limit : (rs : List (Record E)) → AllByRecursion (IsRecord d) rs → batch_count rs ≤ 65536
+      limit : (rs : List (Record E)) → AllByRecursion (IsRecord d) rs → batch_count (map (λ r. r.batch) rs) ≤ 65536
       limit [] h = omega arith
       limit (r ∷ rs) h = let one = h.0.batch in let others = limit rs h.1 in omega (arith, one, others)

@@ -1,5 +1,5 @@
 -- The parts that a session works and the rows that it publishes stand for their chunks and batches.
-use Rattle.std.proofs.Common.{◌≡◌, ℕ, suc, ◌+◌, ◌<◌, ◌≤◌, Bool, true, false, cond, ◌&&◌, List, [], ◌∷◌, ◌++◌, length, map, filter, refl, sym, ap, subst, ◌∙◌, arith}
+use Rattle.std.proofs.Common.{◌≡◌, ℕ, suc, ◌+◌, ◌%◌, ◌<◌, ◌≤◌, Bool, true, false, cond, ◌&&◌, List, [], ◌∷◌, ◌++◌, length, map, filter, refl, sym, ap, subst, ◌∙◌, arith}
 use Rattle.std.specs.Prelude.{nat_lt, nat_le, ◌==◌, slice_index}
 use Rattle.std.specs.List.{AllByRecursion}
 use Rattle.std.proofs.lemmas.Bool.{ltb-true, ltb-false, leb-true, leb-false, eqb-true, eqb-false}
@@ -10,18 +10,25 @@ use Rattle.sb_laws.proofs.Positions.{fold_same}
 use Rattle.sb_feed.specs.declared.key.KeyBytes.{KeyBytes}
 use Rattle.sb_feed.specs.declared.parts.Part.{Part}
 use Rattle.sb_feed.specs.Feeds.{parts_of}
-use Rattle.sb_feed.specs.Jobs.{Record, Job, Dictionaries, AreValid, IsRecord, IsJobOf, batch_of, chunk_of, of_key_from, of_key, fold_of, is_in}
-use Rattle.sb_feed.specs.Keys.{key_order, same_key}
-use Rattle.sb_feed.specs.Stands.{batch_value, key_values, sum_at, elements, IsParcelOf, AreRowsBy}
-use Rattle.sb_feed.proofs.PartSums.{fold_filter, elements_append}
+use Rattle.sb_feed.specs.Jobs.{Record, CutLog, Dictionaries, AreValid, IsRecord, IsLogOf, places_of, values_from, log_values, log_fold}
+use Rattle.sb_feed.specs.Places.{Places, batch_at, chunk_at, is_of_shard, is_in}
+use Rattle.sb_feed.specs.Keys.{key_order, same_key, key_hash}
+use Rattle.sb_feed.specs.Stands.{batch_value, key_values, sum_at, keyed_values, IsParcelOf, AreRowsBy}
+use Rattle.sb_feed.proofs.PartSums.{fold_filter, keyed_append}
 use Rattle.sb_session.specs.Emitted.{parts_where}
-use Rattle.sb_session.specs.Sessions.{all_keys}
-use Rattle.sb_session.specs.Sums.{key_sum, AreKeySums}
+use Rattle.sb_job.specs.Sums.{key_sum, AreKeySums}
 use Rattle.sb_session.proofs.Emitted.{HaveBatches, values_where}
 
 filter_where : {A : Type 0} (s t : A → Bool) (xs : List A) → AllByRecursion (λ x. s x ≡ t x) xs → filter s xs ≡ filter t xs
 filter_where s t [] h = refl
 filter_where {A = A} s t (x ∷ xs) h = ap (λ (b : Bool). cond b (x ∷ filter s xs) (filter s xs)) h.0 ∙ ap (λ (l : List A). cond (t x) (x ∷ l) l) (filter_where s t xs h.1)
+
+-- with one shard every key is its own
+pub of_one_shard : (places : Places) (key : KeyBytes) → places.shards ≡ 1 → is_of_shard places 0 key ≡ true
+of_one_shard places key one = ap (λ n. key_hash key % n == 0) one ∙ ap (λ n. n == 0) nothing_left
+  where
+    nothing_left : key_hash key % 1 ≡ 0
+    nothing_left = omega arith
 
 and_turn : (x y : Bool) → (x && y) ≡ (true && (y && x))
 and_turn true true = refl
@@ -43,23 +50,23 @@ module _ {E : Type 0} where
   of_one P i (v ∷ values) p xs h = (p, of_one P i values p xs h)
 
   -- what holds of each position of the log holds of those of a key's values
-  positions : (P : ℕ → Type 0) (key : KeyBytes) (i : ℕ) (records : List (Record E)) → ((k : ℕ) → i ≤ k → k < i + length records → P k) → AllByRecursion (λ x. P x.0) (of_key_from key i records)
+  positions : (P : ℕ → Type 0) (key : KeyBytes) (i : ℕ) (records : List (Record E)) → ((k : ℕ) → i ≤ k → k < i + length records → P k) → AllByRecursion (λ x. P x.0) (values_from key i records)
   positions P key i [] h = tt
   positions P key i (r ∷ records) h =
-      of_one P i (values_at key_order key r.parts) (h i (omega arith) (omega arith)) (of_key_from key (suc i) records) (positions P key (suc i) records (λ k le less. h k (omega (arith, le)) (omega (arith, less))))
+      of_one P i (values_at key_order key r.parts) (h i (omega arith) (omega arith)) (values_from key (suc i) records) (positions P key (suc i) records (λ k le less. h k (omega (arith, le)) (omega (arith, less))))
 
   -- tests that agree on the positions of the log
-  pub fold_where : (add : E → E → E) (job : Job E) (key : KeyBytes) (s t : ℕ → Bool) → ((k : ℕ) → k < length job.records → s k ≡ t k) → fold_over add (of_key job key) s ≡ fold_over add (of_key job key) t
-  fold_where add job key s t h =
-      ap (λ l. sum_of add (map (λ (x : ℕ × E). x.1) l)) (filter_where (λ (x : ℕ × E). s x.0) (λ x. t x.0) (of_key job key) (positions (λ k. s k ≡ t k) key 0 job.records (λ k le less. h k (omega (arith, less)))))
+  pub fold_where : (add : E → E → E) (log : CutLog E) (key : KeyBytes) (s t : ℕ → Bool) → ((k : ℕ) → k < length log.records → s k ≡ t k) → fold_over add (log_values log key) s ≡ fold_over add (log_values log key) t
+  fold_where add log key s t h =
+      ap (λ l. sum_of add (map (λ (x : ℕ × E). x.1) l)) (filter_where (λ (x : ℕ × E). s x.0) (λ x. t x.0) (log_values log key) (positions (λ k. s k ≡ t k) key 0 log.records (λ k le less. h k (omega (arith, less)))))
 
   batches_from : (b : ℕ → ℕ) (i : ℕ) (records : List (Record E)) → ((k : ℕ) → k < length records → b (i + k) ≡ slice_index (map (λ r. r.batch) records) k) → HaveBatches b i records
   batches_from b i [] h = tt
   batches_from b i (r ∷ records) h =
       (ap b (omega arith) ∙ h 0 (omega arith), batches_from b (suc i) records (λ k less. ap b (omega arith) ∙ h (suc k) (omega (arith, less))))
 
-  job_batches : (job : Job E) → HaveBatches (batch_of job) 0 job.records
-  job_batches job = batches_from (batch_of job) 0 job.records (λ k less. ap (batch_of job) (omega arith))
+  log_batches : (log : CutLog E) → HaveBatches (batch_at (places_of log)) 0 log.records
+  log_batches log = batches_from (batch_at (places_of log)) 0 log.records (λ k less. ap (batch_at (places_of log)) (omega arith))
 
   onto_filtered : (b : ℕ → ℕ) (x : ℕ × E) (u : Bool) (ys zs : List (ℕ × E)) → ys ≡ map {B = ℕ × E} (λ x. (b x.0, x.1)) zs → cond u ((b x.0, x.1) ∷ ys) ys ≡ map {B = ℕ × E} (λ x. (b x.0, x.1)) (cond u (x ∷ zs) zs)
   onto_filtered b x true ys zs e = ap (λ l. (b x.0, x.1) ∷ l) e
@@ -74,60 +81,61 @@ module _ {E : Type 0} where
   values_placed b (x ∷ xs) = ap (λ l. x.1 ∷ l) (values_placed b xs)
 
   -- the sum of a key's parts of a batch, of the parts at the positions that pass
-  sum_where : (add : ℕ → E → E → E) (job : Job E) (passes : ℕ → Bool) (key : KeyBytes) (j : ℕ)
-      → sum_at add key j (parts_where passes 0 job.records) ≡ fold_of add job key (λ i. passes i && (batch_of job i == j))
-  sum_where add job passes key j =
-      let b = batch_of job in
-      let xs : List (ℕ × E) = filter (λ x. passes x.0) (of_key job key) in
-      ap (λ l. fold_over (add key.store) l (λ n. n == j)) (values_where key passes b 0 job.records (job_batches job))
+  sum_where : (add : ℕ → E → E → E) (log : CutLog E) (passes : ℕ → Bool) (key : KeyBytes) (j : ℕ)
+      → sum_at add key j (parts_where passes 0 log.records) ≡ log_fold add log key (λ i. passes i && (batch_at (places_of log) i == j))
+  sum_where add log passes key j =
+      let b = batch_at (places_of log) in
+      let xs : List (ℕ × E) = filter (λ x. passes x.0) (log_values log key) in
+      ap (λ l. fold_over (add key.store) l (λ n. n == j)) (values_where key passes b 0 log.records (log_batches log))
       ∙ (ap (λ l. sum_of (add key.store) (map (λ (x : ℕ × E). x.1) l)) (filter_placed b (λ n. n == j) xs)
       ∙ (ap (sum_of (add key.store)) (values_placed b (filter (λ x. b x.0 == j) xs))
-      ∙ fold_filter (add key.store) passes (λ i. b i == j) (of_key job key)))
+      ∙ fold_filter (add key.store) passes (λ i. b i == j) (log_values log key)))
 
   onto_values : (part : Part E) (u : Bool) (xs : List (KeyBytes × E)) (ys : List (Part E)) → map (λ (x : KeyBytes × E). x.1) xs ≡ map (λ (x : ℕ × E). x.1) (map batch_value ys)
       → map (λ (x : KeyBytes × E). x.1) (cond u ((part.key, part.value) ∷ xs) xs) ≡ map (λ (x : ℕ × E). x.1) (map batch_value (cond u (part ∷ ys) ys))
   onto_values part true xs ys e = ap (λ l. part.value ∷ l) e
   onto_values part false xs ys e = e
 
-  of_elements : (key : KeyBytes) (parts : List (Part E)) → values_at key_order key (elements parts) ≡ map (λ (x : ℕ × E). x.1) (key_values key parts)
+  of_elements : (key : KeyBytes) (parts : List (Part E)) → values_at key_order key (keyed_values parts) ≡ map (λ (x : ℕ × E). x.1) (key_values key parts)
   of_elements key [] = refl
-  of_elements key (part ∷ parts) = onto_values part (same_key key part.key) (filter (λ x. same_key key x.0) (elements parts)) (filter (λ x. same_key key x.key) parts) (of_elements key parts)
+  of_elements key (part ∷ parts) = onto_values part (same_key key part.key) (filter (λ x. same_key key x.0) (keyed_values parts)) (filter (λ x. same_key key x.key) parts) (of_elements key parts)
 
   -- the sum of a key's parts, of the parts at the positions that pass
-  key_sum_where : (d : Dictionaries E) (job : Job E) (passes : ℕ → Bool) (key : KeyBytes) → key_sum d key (elements (parts_where passes 0 job.records)) ≡ fold_of d.add job key passes
-  key_sum_where d job passes key =
-      let b = batch_of job in
-      ap (sum_of (d.add key.store)) (of_elements key (parts_where passes 0 job.records)
-      ∙ (ap (map (λ (x : ℕ × E). x.1)) (values_where key passes b 0 job.records (job_batches job)) ∙ values_placed b (filter (λ x. passes x.0) (of_key job key))))
+  key_sum_where : (d : Dictionaries E) (log : CutLog E) (passes : ℕ → Bool) (key : KeyBytes) → key_sum d key (keyed_values (parts_where passes 0 log.records)) ≡ log_fold d.add log key passes
+  key_sum_where d log passes key =
+      let b = batch_at (places_of log) in
+      ap (sum_of (d.add key.store)) (of_elements key (parts_where passes 0 log.records)
+      ∙ (ap (map (λ (x : ℕ × E). x.1)) (values_where key passes b 0 log.records (log_batches log)) ∙ values_placed b (filter (λ x. passes x.0) (log_values log key))))
 
-  parts_of_valid : (d : Dictionaries E) (batch : ℕ) (parts : List (KeyBytes × E)) → AreValid d parts → AreValid d (elements (map (λ (part : KeyBytes × E). record { key = part.0; batch = batch; value = part.1 }) parts))
+  parts_of_valid : (d : Dictionaries E) (batch : ℕ) (parts : List (KeyBytes × E)) → AreValid d parts → AreValid d (keyed_values (map (λ (part : KeyBytes × E). record { key = part.0; batch = batch; value = part.1 }) parts))
   parts_of_valid d batch [] h = tt
   parts_of_valid d batch (part ∷ parts) h = (h.0, parts_of_valid d batch parts h.1)
 
-  if_valid : (d : Dictionaries E) (r : Record E) (t : Bool) → IsRecord d r → AreValid d (elements (cond t (parts_of r) []))
+  if_valid : (d : Dictionaries E) (r : Record E) (t : Bool) → IsRecord d r → AreValid d (keyed_values (cond t (parts_of r) []))
   if_valid d r true h = parts_of_valid d r.batch r.parts h.valid
   if_valid d r false h = tt
 
-  pub where_valid : (d : Dictionaries E) (passes : ℕ → Bool) (i : ℕ) (records : List (Record E)) → AllByRecursion (IsRecord d) records → AreValid d (elements (parts_where passes i records))
+  pub where_valid : (d : Dictionaries E) (passes : ℕ → Bool) (i : ℕ) (records : List (Record E)) → AllByRecursion (IsRecord d) records → AreValid d (keyed_values (parts_where passes i records))
   where_valid d passes i [] h = tt
   where_valid d passes i (r ∷ records) h =
-      elements_append d (cond (passes i) (parts_of r) []) (parts_where passes (suc i) records) (if_valid d r (passes i) h.0) (where_valid d passes (suc i) records h.1)
+      keyed_append d (cond (passes i) (parts_of r) []) (parts_where passes (suc i) records) (if_valid d r (passes i) h.0) (where_valid d passes (suc i) records h.1)
 
-  -- the parts at the positions of chunks stand for these
-  pub is_parcel : (d : Dictionaries E) (job : Job E) (passes : ℕ → Bool) (chunks : List ℕ) (parts : List (Part E)) → IsJobOf d job → parts ≡ parts_where passes 0 job.records
-      → ((i : ℕ) → i < length job.records → passes i ≡ is_in chunks (chunk_of job i)) → IsParcelOf d job all_keys (record { chunks = chunks; parts = parts })
-  is_parcel d job passes chunks parts valid are same = record {
-    sums = λ key j there. ap (sum_at d.add key j) are ∙ (sum_where d.add job passes key j
-        ∙ fold_where (d.add key.store) job key (λ i. passes i && (batch_of job i == j)) (λ i. true && (batch_of job i == j && is_in chunks (chunk_of job i)))
-        (λ i less. and_turn (passes i) (batch_of job i == j) ∙ ap (λ t. true && (batch_of job i == j && t)) (same i less)));
-    valid = subst (λ l. AreValid d (elements l)) (sym are) (where_valid d passes 0 job.records valid);
+  -- the parts at the positions of chunks stand for these, where there is one shard
+  pub is_parcel : (d : Dictionaries E) (log : CutLog E) (passes : ℕ → Bool) (chunks : List ℕ) (parts : List (Part E)) → IsLogOf d log → log.shards ≡ 1 → parts ≡ parts_where passes 0 log.records
+      → ((i : ℕ) → i < length log.records → passes i ≡ is_in chunks (chunk_at (places_of log) i)) → IsParcelOf d log 0 (record { chunks = chunks; parts = parts })
+  is_parcel d log passes chunks parts valid one are same = record {
+    sums = λ key j there. ap (sum_at d.add key j) are ∙ (sum_where d.add log passes key j
+        ∙ fold_where (d.add key.store) log key (λ i. passes i && (batch_at (places_of log) i == j)) (λ i. is_of_shard (places_of log) 0 key && (batch_at (places_of log) i == j && is_in chunks (chunk_at (places_of log) i)))
+        (λ i less. and_turn (passes i) (batch_at (places_of log) i == j) ∙ (ap (λ t. true && (batch_at (places_of log) i == j && t)) (same i less)
+        ∙ ap (λ o. o && (batch_at (places_of log) i == j && is_in chunks (chunk_at (places_of log) i))) (sym (of_one_shard (places_of log) key one)))));
+    valid = subst (λ l. AreValid d (keyed_values l)) (sym are) (where_valid d passes 0 log.records valid);
   }
 
-  -- the sums of a batch's parts by key are its rows
-  pub are_rows : (d : Dictionaries E) (job : Job E) (p q : ℕ) (rows : List (KeyBytes × E)) → q ≡ p + 1 → AreKeySums d (elements (parts_where (λ i. batch_of job i == p) 0 job.records)) rows
-      → AreRowsBy d.stores d.add job all_keys (record { from = p; to = q; rows = rows })
-  are_rows d job p q rows e sums = record {
-    rising = sums.rising;
-    sums = λ key there. sums.sums key ∙ (key_sum_where d job (λ i. batch_of job i == p) key
-        ∙ fold_same (d.add key.store) (of_key job key) (λ i. batch_of job i == p) (λ i. true && (nat_le p (batch_of job i) && nat_lt (batch_of job i) q)) (λ i. same_batch (batch_of job i) p q _ _ _ e refl refl refl));
-  }
+  -- the sums of a batch's parts by key are its rows, where there is one shard
+  pub are_rows : (d : Dictionaries E) (log : CutLog E) (p q : ℕ) (rows : List (KeyBytes × E)) → q ≡ p + 1 → log.shards ≡ 1 → AreKeySums d (keyed_values (parts_where (λ i. batch_at (places_of log) i == p) 0 log.records)) rows
+      → AreRowsBy d.stores d.add log 0 (record { from = p; to = q; rows = rows })
+  are_rows d log p q rows e one sums =
+      λ key there. sums.sums key ∙ (key_sum_where d log (λ i. batch_at (places_of log) i == p) key
+      ∙ fold_same (d.add key.store) (log_values log key) (λ i. batch_at (places_of log) i == p) (λ i. is_of_shard (places_of log) 0 key && (nat_le p (batch_at (places_of log) i) && nat_lt (batch_at (places_of log) i) q))
+      (λ i. same_batch (batch_at (places_of log) i) p q _ _ _ e refl refl refl
+      ∙ ap (λ o. o && (nat_le p (batch_at (places_of log) i) && nat_lt (batch_at (places_of log) i) q)) (sym (of_one_shard (places_of log) key one))))

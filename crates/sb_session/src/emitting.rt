@@ -1,8 +1,10 @@
-// What the records of a feed emit.
+//! What the records of a feed emit.
 ghost use Rattle.std.specs.Prelude.{◌≡◌, ◌≤◌, ◌<◌, ◌==◌, ◌++◌, [], max, length, slice_index, map, IfOk, OnOk, if◌then◌else◌};
 ghost use Rattle.sb_feed.specs.Feeds.{parts_at};
 ghost use Rattle.std.specs.List.{AllByRecursion};
-ghost use Rattle.sb_feed.specs.Jobs.{IsRecord, batch_count, dictionaries};
+ghost use Rattle.sb_feed.specs.Jobs.{IsRecord, meant};
+ghost use Rattle.sb_feed.specs.Limits.{most_batches};
+ghost use Rattle.sb_feed.specs.Places.{batch_count};
 ghost use Rattle.sb_session.specs.Emitted.{parts_where, is_between};
 
 use sb_feed::{Feed, Part};
@@ -18,7 +20,8 @@ pub fn parts_between<F: Feed>(
 ) -> Result<Vec<Part<<F::M as Semigroup>::El>>, NoMemory>
     requires from { from ≤ to }
     requires to { to ≤ length (F.records feed.now) }
-    ensures { IfOk result (λ parts. parts.items ≡ parts_where (is_between from to) 0 (F.records feed.now)) }
+    ensures { IfOk result (λ parts. parts.items
+        ≡ parts_where (is_between from to) 0 (F.records feed.now)) }
 {
     let mut parts = Vec::new(alloc);
     for i in from..to {
@@ -33,7 +36,9 @@ pub fn parts_of_batch<F: Feed>(
     feed: &F,
     batch: u64,
 ) -> Result<Vec<Part<<F::M as Semigroup>::El>>, NoMemory>
-    ensures { IfOk result (λ parts. parts.items ≡ parts_where (λ i. slice_index (map (λ r. r.batch) (F.records feed.now)) i == batch) 0 (F.records feed.now)) }
+    ensures { IfOk result (λ parts. parts.items
+        ≡ parts_where (λ i. slice_index (map (λ r. r.batch) (F.records feed.now)) i == batch) 0
+        (F.records feed.now)) }
 {
     let mut parts = Vec::new(alloc);
     for i in 0..feed.len() {
@@ -51,7 +56,9 @@ fn emit_in<F: Feed>(
     parts: &mut Vec<Part<<F::M as Semigroup>::El>>,
 ) -> Result<(), NoMemory>
     requires { i < length (F.records feed.now) }
-    ensures { OnOk result (parts.new.items ≡ parts.old.items ++ (if slice_index (map (λ r. r.batch) (F.records feed.now)) i == batch then parts_at (F.records feed.now) i else [])) }
+    ensures { OnOk result (parts.new.items ≡ parts.old.items
+        ++ (if slice_index (map (λ r. r.batch) (F.records feed.now)) i == batch then parts_at
+        (F.records feed.now) i else [])) }
 {
     if feed.batch(i) != batch {
         return Ok(());
@@ -61,9 +68,10 @@ fn emit_in<F: Feed>(
 
 /// One more than the greatest batch, and 0 without records. At most 65,536.
 pub fn batch_count<F: Feed>(feed: &F) -> u64
-    ensures count { result ≡ batch_count (F.records feed.now) }
-    ensures limit { result ≤ 65536 }
-    ensures valid { AllByRecursion (IsRecord (dictionaries F.M.valid F.M.add (F.stores feed.now) (F.dictionary feed.now))) (F.records feed.now) }
+    ensures count { result ≡ batch_count (map (λ r. r.batch) (F.records feed.now)) }
+    ensures limit { result ≤ most_batches }
+    ensures valid { AllByRecursion (IsRecord (meant F.M.valid F.M.add (F.monoids feed.now)))
+        (F.records feed.now) }
 {
     let mut count = 0;
     for i in 0..feed.len() {

@@ -4,9 +4,5 @@
 
 mod emitting;
 mod session;
-mod sums;
 
 pub use session::{Reading, Session};
-
-#[cfg(test)]
-mod tests;

@@ -1,14 +1,15 @@
+//! The session: its events, and what it reads.
 ghost use Rattle.std.specs.Prelude.{◌≡◌, ◌≤◌, ◌<◌, ◌+◌, ◌-◌, ◌*◌, ◌++◌, min, max, map, length, IfOk, OnOk, OnErr};
 ghost use Rattle.std.specs.List.{AllByRecursion, range_with_len};
 ghost use Rattle.sb_feed.specs.Cuts.{chunk_count};
-ghost use Rattle.sb_feed.specs.Jobs.{batch_count, dictionaries};
+ghost use Rattle.sb_feed.specs.Limits.{most_chunks};
 ghost use Rattle.sb_laws.specs.Sums.{sum_of};
 ghost use Rattle.sb_shard.specs.Asks.{values_of};
-ghost use Rattle.sb_session.specs.Sessions.{job_by, all_keys, IsOver, published_by, read_fold, AreAllRows};
+ghost use Rattle.sb_session.specs.Sessions.{job_by, IsOver, published_by, read_fold, AreAllRows};
 
 use crate::emitting::{batch_count, parts_between, parts_of_batch};
-use crate::sums::sum_parts;
 use sb_feed::{Cut, Feed, KeyBytes, Parcel, PartList, RowList, Rows, Sums};
+use sb_job::sum_parts;
 use sb_laws::{Commuting, NoMemory, Semigroup, fold_list};
 use sb_shard::{Answer, AskError, Shard};
 use sb_text::Ranges;
@@ -45,13 +46,14 @@ impl<E> Model for Session<E> {
 }
 
 impl<E: Drop> Session<E> {
-    /// A session over a feed, in the chunks of a cut made for its records. Nothing is worked, and nothing is published.
+    /// A session over a feed, in the chunks of a cut made for its records, with one shard. Nothing is worked, and nothing is published.
     /// Takes no memory.
     pub fn new<F: Feed>(alloc: Global, feed: &F, cut: Cut) -> Session<E>
     where
         F::M: Semigroup<El = E>,
         requires records { cut.records ≡ length (F.records feed.now) }
-        ensures over { IsOver (dictionaries F.M.valid F.M.add (F.stores feed.now) (F.dictionary feed.now)) (F.records feed.now) result }
+        requires one { cut.shards ≡ 1 }
+        ensures over { IsOver F.M.valid F.M.add (F.monoids feed.now) (F.records feed.now) result }
         ensures cut { result.cut ≡ cut }
         ensures numbers { (result.worked ≡ 0) × (published_by result ≡ 0) }
     {
@@ -74,11 +76,16 @@ impl<E: Drop> Session<E> {
     pub fn work<F: Feed>(&mut self, alloc: Global, feed: &F, most: u64) -> Result<Ranges, NoMemory>
     where
         F::M: Commuting<El = E>,
-        requires over { IsOver (dictionaries F.M.valid F.M.add (F.stores feed.now) (F.dictionary feed.now)) (F.records feed.now) self.old }
-        ensures over { OnOk result (IsOver (dictionaries F.M.valid F.M.add (F.stores feed.now) (F.dictionary feed.now)) (F.records feed.now) self.new) }
-        ensures worked { OnOk result (self.new.worked ≡ min (self.old.worked + most) (chunk_count self.old.cut)) }
-        ensures chunks { IfOk result (λ chunks. chunks ≡ range_with_len self.old.worked (self.new.worked - self.old.worked)) }
-        ensures others { OnOk result ((self.new.cut ≡ self.old.cut) × (published_by self.new ≡ published_by self.old)) }
+        requires over { IsOver F.M.valid F.M.add (F.monoids feed.now) (F.records feed.now)
+            self.old }
+        ensures over { OnOk result (IsOver F.M.valid F.M.add (F.monoids feed.now)
+            (F.records feed.now) self.new) }
+        ensures worked { OnOk result (self.new.worked
+            ≡ min (self.old.worked + most) (chunk_count self.old.cut)) }
+        ensures chunks { IfOk result (λ chunks. chunks
+            ≡ range_with_len self.old.worked (self.new.worked - self.old.worked)) }
+        ensures others { OnOk result ((self.new.cut ≡ self.old.cut)
+            × (published_by self.new ≡ published_by self.old)) }
         ensures err { OnErr result (self.new ≡ self.old) }
     {
         let upto = self.cut.chunks().min(self.worked.saturating_add(most));
@@ -93,12 +100,15 @@ impl<E: Drop> Session<E> {
     fn flush<F: Feed>(&mut self, alloc: Global, feed: &F, upto: u64) -> Result<(), NoMemory>
     where
         F::M: Commuting<El = E>,
-        requires over { IsOver (dictionaries F.M.valid F.M.add (F.stores feed.now) (F.dictionary feed.now)) (F.records feed.now) self.old }
+        requires over { IsOver F.M.valid F.M.add (F.monoids feed.now) (F.records feed.now)
+            self.old }
         requires some { self.old.worked < upto }
         requires chunks { upto ≤ chunk_count self.old.cut }
-        ensures over { OnOk result (IsOver (dictionaries F.M.valid F.M.add (F.stores feed.now) (F.dictionary feed.now)) (F.records feed.now) self.new) }
+        ensures over { OnOk result (IsOver F.M.valid F.M.add (F.monoids feed.now)
+            (F.records feed.now) self.new) }
         ensures worked { OnOk result (self.new.worked ≡ upto) }
-        ensures others { OnOk result ((self.new.cut ≡ self.old.cut) × (published_by self.new ≡ published_by self.old)) }
+        ensures others { OnOk result ((self.new.cut ≡ self.old.cut)
+            × (published_by self.new ≡ published_by self.old)) }
         ensures err { OnErr result (self.new ≡ self.old) }
     {
         let chunks = chunks_between(alloc, self.worked, upto)?;
@@ -119,9 +129,11 @@ impl<E: Drop> Session<E> {
     pub fn publish<F: Feed>(&mut self, alloc: Global, feed: &F, upto: u64) -> Result<(), NoMemory>
     where
         F::M: Commuting<El = E>,
-        requires over { IsOver (dictionaries F.M.valid F.M.add (F.stores feed.now) (F.dictionary feed.now)) (F.records feed.now) self.old }
-        ensures over { IsOver (dictionaries F.M.valid F.M.add (F.stores feed.now) (F.dictionary feed.now)) (F.records feed.now) self.new }
-        ensures published { OnOk result (published_by self.new ≡ max (published_by self.old) (min upto self.old.batches)) }
+        requires over { IsOver F.M.valid F.M.add (F.monoids feed.now) (F.records feed.now)
+            self.old }
+        ensures over { IsOver F.M.valid F.M.add (F.monoids feed.now) (F.records feed.now) self.new }
+        ensures published { OnOk result (published_by self.new
+            ≡ max (published_by self.old) (min upto self.old.batches)) }
         ensures others { (self.new.cut ≡ self.old.cut) × (self.new.worked ≡ self.old.worked) }
     {
         let end = upto.min(self.batches);
@@ -135,12 +147,14 @@ impl<E: Drop> Session<E> {
     fn publish_next<F: Feed>(&mut self, alloc: Global, feed: &F, batch: u64) -> Result<(), NoMemory>
     where
         F::M: Commuting<El = E>,
-        requires over { IsOver (dictionaries F.M.valid F.M.add (F.stores feed.now) (F.dictionary feed.now)) (F.records feed.now) self.old }
+        requires over { IsOver F.M.valid F.M.add (F.monoids feed.now) (F.records feed.now)
+            self.old }
         requires next { batch ≡ published_by self.old }
         requires some { batch < self.old.batches }
-        ensures over { IsOver (dictionaries F.M.valid F.M.add (F.stores feed.now) (F.dictionary feed.now)) (F.records feed.now) self.new }
+        ensures over { IsOver F.M.valid F.M.add (F.monoids feed.now) (F.records feed.now) self.new }
         ensures published { OnOk result (published_by self.new ≡ published_by self.old + 1) }
-        ensures others { (self.new.cut ≡ self.old.cut) × (self.new.worked ≡ self.old.worked) × (self.new.batches ≡ self.old.batches) }
+        ensures others { (self.new.cut ≡ self.old.cut) × (self.new.worked ≡ self.old.worked)
+            × (self.new.batches ≡ self.old.batches) }
     {
         let parts = parts_of_batch(alloc, feed, batch)?;
         let rows = sum_parts(alloc, feed, parts)?;
@@ -162,10 +176,14 @@ impl<E: Drop> Session<E> {
     ) -> Result<Reading<E>, NoMemory>
     where
         F::M: Commuting<El = E>,
-        requires over { IsOver (dictionaries F.M.valid F.M.add (F.stores feed.now) (F.dictionary feed.now)) (F.records feed.now) self.now }
-        requires store { key.now.store < F.stores feed.now }
-        ensures value { IfOk result (λ reading. reading.value ≡ read_fold (dictionaries F.M.valid F.M.add (F.stores feed.now) (F.dictionary feed.now)) (job_by (F.records feed.now) self.now.cut) key.now upto (published_by self.now) self.now.worked) }
-        ensures numbers { IfOk result (λ reading. (reading.published ≡ published_by self.now) × (reading.cover ≡ range_with_len 0 self.now.worked)) }
+        requires over { IsOver F.M.valid F.M.add (F.monoids feed.now) (F.records feed.now)
+            self.now }
+        requires store { key.now.store < length (F.monoids feed.now) }
+        ensures value { IfOk result (λ reading. reading.value
+            ≡ read_fold F.M.add (job_by (F.monoids feed.now) (F.records feed.now) self.now.cut)
+            key.now upto (published_by self.now) self.now.worked) }
+        ensures numbers { IfOk result (λ reading. (reading.published ≡ published_by self.now)
+            × (reading.cover ≡ range_with_len 0 self.now.worked)) }
     {
         match self.shard.ask(alloc, feed, key, upto) {
             Ok(answer) => merge(alloc, feed.monoid(key.store), answer),
@@ -177,8 +195,9 @@ impl<E: Drop> Session<E> {
     pub fn drain<F: Feed>(mut self, alloc: Global, feed: &F) -> Result<RowList<E>, NoMemory>
     where
         F::M: Commuting<El = E>,
-        requires over { IsOver (dictionaries F.M.valid F.M.add (F.stores feed.now) (F.dictionary feed.now)) (F.records feed.now) self }
-        ensures { IfOk result (AreAllRows (dictionaries F.M.valid F.M.add (F.stores feed.now) (F.dictionary feed.now)) (job_by (F.records feed.now) self.cut)) }
+        requires over { IsOver F.M.valid F.M.add (F.monoids feed.now) (F.records feed.now) self }
+        ensures { IfOk result (AreAllRows F.M.valid F.M.add
+            (job_by (F.monoids feed.now) (F.records feed.now) self.cut)) }
     {
         self.work(alloc, feed, u64::MAX)?;
         let rows = self.shard.into_rows(alloc, feed)?;
@@ -189,7 +208,7 @@ impl<E: Drop> Session<E> {
 // The numbers of the chunks from one on and below another.
 fn chunks_between(alloc: Global, from: u64, to: u64) -> Result<Ranges, NoMemory>
     requires order { from ≤ to }
-    requires limit { to ≤ 65536 }
+    requires limit { to ≤ most_chunks }
     ensures { IfOk result (λ chunks. chunks ≡ range_with_len from (to - from)) }
 {
     let mut chunks = Ranges::new(alloc);
@@ -206,8 +225,10 @@ fn merge<M: Semigroup>(
     answer: Answer<M::El>,
 ) -> Result<Reading<M::El>, NoMemory>
     requires { AllByRecursion (M.valid m.now) (values_of answer) }
-    ensures value { IfOk result (λ reading. reading.value ≡ sum_of (M.add m.now) (values_of answer)) }
-    ensures numbers { IfOk result (λ reading. (reading.published ≡ answer.published_to) × (reading.cover ≡ answer.cover)) }
+    ensures value { IfOk result (λ reading. reading.value
+        ≡ sum_of (M.add m.now) (values_of answer)) }
+    ensures numbers { IfOk result (λ reading. (reading.published ≡ answer.published_to)
+        × (reading.cover ≡ answer.cover)) }
 {
     let Answer {
         base,

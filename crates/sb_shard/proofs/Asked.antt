@@ -17,10 +17,10 @@ use Rattle.sb_feed.specs.declared.key.KeyBytes.{KeyBytes}
 use Rattle.sb_feed.specs.declared.parts.Part.{Part}
 use Rattle.sb_feed.specs.Keys.{key_order, same_key}
 use Rattle.sb_feed.specs.Jobs.{Dictionaries, AreValid}
-use Rattle.sb_feed.specs.Stands.{batch_value, key_values, sum_at, elements, HasSums}
-use Rattle.sb_feed.proofs.PartSums.{same_is_equal, filter_twice, sum_filter, values_valid, elements_filter}
-use Rattle.sb_shard.specs.Gathering.{is_asked, asked, onto, rows_from}
-use Rattle.sb_shard.specs.Shards.{Held, kept_by, published_sum, online_sum}
+use Rattle.sb_feed.specs.Stands.{batch_value, key_values, sum_at, keyed_values, HasSums}
+use Rattle.sb_feed.proofs.PartSums.{same_is_equal, filter_twice, sum_filter, values_valid, keyed_filter}
+use Rattle.sb_shard.specs.ByBatch.{is_asked, asked, onto, rows_from}
+use Rattle.sb_shard.specs.Shards.{ShardValue, kept_by, published_sum, online_sum}
 
 apart : (j i : ℕ) → i < j → eq_by_cmp nat_cmp j i ≡ false
 apart j i h = unsigned_tied j i ∙ differ
@@ -144,13 +144,12 @@ module _ {E : Type 0} (d : Dictionaries E) (key : KeyBytes) (upto : ℕ) where
       onto_valid i (find key_order key rows) (rows_from key (suc i) (take n lists)) (found_valid rows (valid_left _ rows (flat_map (λ r. r) lists) h)) (rows_valid (suc i) n lists (valid_right _ rows (flat_map (λ r. r) lists) h))
 
   -- of the rows up to a batch
-  pub published_has : (held : Held E) (sums : List (ℕ × E)) → AreValid d (kept_by held) → sums ≡ rows_from key 0 (take (upto + 1) held.rows) → HasSums (d.valid key.store) upto (published_sum held key) sums
+  pub published_has : (held : ShardValue E) (sums : List (ℕ × E)) → AreValid d (kept_by held) → sums ≡ rows_from key 0 (take (upto + 1) held.rows) → HasSums (d.valid key.store) upto (published_sum held key) sums
   published_has held sums valid e = subst (HasSums (d.valid key.store) upto (published_sum held key)) (sym e) (record {
-    rising = is_true _ (rows_rise key 0 (take (upto + 1) held.rows));
     each = λ j.
         find_rows key j 0 j (take (upto + 1) held.rows) (omega arith)
         ∙ (find_taken key (upto + 1) j held.rows ∙ ap (λ t. cond t (find key_order key (get_or held.rows j [])) None) (lt_next j upto));
-    valid = rows_valid 0 (upto + 1) held.rows (valid_right _ (elements held.parts) (flat_map (λ rows. rows) held.rows) valid);
+    valid = rows_valid 0 (upto + 1) held.rows (valid_right _ (keyed_values held.parts) (flat_map (λ rows. rows) held.rows) valid);
   })
 
   module _ (from : ℕ) (parts : List (Part E)) where
@@ -161,8 +160,8 @@ module _ {E : Type 0} (d : Dictionaries E) (key : KeyBytes) (upto : ℕ) where
     asked_is = ap (map batch_value) (filter_same (is_asked key from upto) (λ part. within part && same_key key part.key) (λ part. and_turn (same_key key part.key) (within part)) parts
         ∙ sym (filter_twice (λ (part : Part E). same_key key part.key) within parts))
 
-    pub asked_valid : AreValid d (elements parts) → AllByRecursion (λ (pair : ℕ × E). d.valid key.store pair.1) (asked key from upto parts)
-    asked_valid h = subst (AllByRecursion (λ (pair : ℕ × E). d.valid key.store pair.1)) (sym asked_is) (values_valid d key (filter within parts) (elements_filter d within parts h))
+    pub asked_valid : AreValid d (keyed_values parts) → AllByRecursion (λ (pair : ℕ × E). d.valid key.store pair.1) (asked key from upto parts)
+    asked_valid h = subst (AllByRecursion (λ (pair : ℕ × E). d.valid key.store pair.1)) (sym asked_is) (values_valid d key (filter within parts) (keyed_filter d within parts h))
 
   same_fold : (add : E → E → E) (j : ℕ) (pairs : List (ℕ × E)) → fold_at nat_cmp add j pairs ≡ fold_over add pairs (λ b. b == j)
   same_fold add j pairs = ap (λ l. sum_of add (map (λ (x : ℕ × E). x.1) l)) (filter_same (λ (x : ℕ × E). eq_by_cmp nat_cmp j x.0) (λ x. x.0 == j) (λ x. unsigned_tied j x.0 ∙ turned j x.0) pairs)
@@ -177,7 +176,7 @@ module _ {E : Type 0} (d : Dictionaries E) (key : KeyBytes) (upto : ℕ) where
           cases false false x y = refl
 
   -- of the parts of batches that aren't published
-  pub online_has : (held : Held E) (sums : List (ℕ × E)) → ((a b : E) → d.valid key.store a → d.valid key.store b → d.valid key.store (d.add key.store a b)) → AreValid d (kept_by held)
+  pub online_has : (held : ShardValue E) (sums : List (ℕ × E)) → ((a b : E) → d.valid key.store a → d.valid key.store b → d.valid key.store (d.add key.store a b)) → AreValid d (kept_by held)
       → sums ≡ add_all nat_cmp (d.add key.store) [] (asked key (length held.rows) upto held.parts) → HasSums (d.valid key.store) upto (online_sum d.add held key) sums
   online_has held sums keeps valid e =
       let add = d.add key.store in
@@ -185,12 +184,11 @@ module _ {E : Type 0} (d : Dictionaries E) (key : KeyBytes) (upto : ℕ) where
       let pairs = asked key p upto held.parts in
       let folds = all_added_are_folds nat_cmp nat_cmp_total add pairs in
       subst (HasSums (d.valid key.store) upto (online_sum d.add held key)) (sym e) (record {
-        rising = folds.rising;
         each = λ j.
             folds.each j
             ∙ (same_fold add j pairs
             ∙ (ap (λ l. fold_over add l (λ b. b == j)) (asked_is p held.parts)
             ∙ (sum_filter d.add (λ b. nat_le p b && nat_le b upto) key j held.parts
             ∙ if_turn (nat_le p j) (nat_le j upto) (sum_at d.add key j held.parts))));
-        valid = valid_add_all nat_cmp nat_cmp_total add (d.valid key.store) keeps [] pairs tt (asked_valid p held.parts (valid_left _ (elements held.parts) (flat_map (λ rows. rows) held.rows) valid));
+        valid = valid_add_all nat_cmp nat_cmp_total add (d.valid key.store) keeps [] pairs tt (asked_valid p held.parts (valid_left _ (keyed_values held.parts) (flat_map (λ rows. rows) held.rows) valid));
       })

@@ -16,13 +16,14 @@ use Rattle.sb_laws.proofs.Sets.{split_and, split_or}
 use Rattle.sb_feed.specs.declared.key.KeyBytes.{KeyBytes}
 use Rattle.sb_feed.specs.declared.parts.Part.{Part}
 use Rattle.sb_feed.specs.declared.parts.Parcel.{Parcel}
-use Rattle.sb_feed.specs.declared.parts.Rows.{Rows}
+use Rattle.sb_feed.specs.declared.rows.Rows.{Rows}
 use Rattle.sb_feed.specs.Keys.{key_order}
-use Rattle.sb_feed.specs.Jobs.{Job, Dictionaries, Commute, IsJobOf, AreValid, batch_count, batch_of, chunk_of, of_key, fold_of, is_in}
-use Rattle.sb_feed.specs.Stands.{sum_at, elements, AreFoldsOf, StandsBy, IsParcelOf, AreRowsBy}
-use Rattle.sb_feed.proofs.PartSums.{sum_filter, sum_both, elements_append, elements_filter}
-use Rattle.sb_feed.proofs.JobValues.{of_key_valid}
-use Rattle.sb_shard.specs.Shards.{Held, shard_sums, kept_by}
+use Rattle.sb_feed.specs.Places.{batches_of, batch_at, chunk_at, is_of_shard, is_in}
+use Rattle.sb_feed.specs.Jobs.{CutLog, Dictionaries, Commute, IsLogOf, AreValid, places_of, log_values, log_fold}
+use Rattle.sb_feed.specs.Stands.{sum_at, keyed_values, AreFoldsOf, IsShardOf, IsParcelOf, AreRowsBy}
+use Rattle.sb_feed.proofs.PartSums.{sum_filter, sum_both, keyed_append, keyed_filter}
+use Rattle.sb_feed.proofs.LogValues.{log_values_valid}
+use Rattle.sb_shard.specs.Shards.{ShardValue, shard_sums, kept_by}
 use Rattle.sb_shard.specs.Events.{ShareNone, parts_from, flushed, AreSwept, IsInstalled}
 
 or_again : (a b : Bool) → (a || b) ≡ (a || (a || b))
@@ -83,15 +84,15 @@ inwards_joined false true true u c e = refl
 inwards_joined false true false u c e = refl
 inwards_joined false false b u c e = refl
 
--- a new shard's sums are the folds of every job
-pub new_folds : {E : Type 0} (stores : ℕ) (add : ℕ → E → E → E) (job : Job E) (own : KeyBytes → Bool) → AreFoldsOf stores add job own (shard_sums add (record { parts = []; rows = []; cover = [] }))
-new_folds {E} stores add job own = record {
+-- a new shard's sums are the folds of every log
+pub new_folds : {E : Type 0} (stores : ℕ) (add : ℕ → E → E → E) (log : CutLog E) (shard : ℕ) → AreFoldsOf stores add log shard (shard_sums add (record { parts = []; rows = []; cover = [] }))
+new_folds {E} stores add log shard = record {
   floor = omega arith;
   last = omega arith;
   lag = inl refl;
-  base = λ key known. sym (fold_none (add key.store) (of_key job key) _ (λ i. under_zero (own key) (batch_of job i)));
-  published = λ key j known. sym (fold_none (add key.store) (of_key job key) _ (λ i. below_none (own key) (batch_of job i == j) 0 j));
-  online = λ key j known. if_none (nat_le 0 j) ∙ sym (fold_none (add key.store) (of_key job key) _ (λ i. no_four (own key) (batch_of job i == j) (nat_le 0 j)));
+  base = λ key known. sym (fold_none (add key.store) (log_values log key) _ (λ i. under_zero (is_of_shard (places_of log) shard key) (batch_at (places_of log) i)));
+  published = λ key j known. sym (fold_none (add key.store) (log_values log key) _ (λ i. below_none (is_of_shard (places_of log) shard key) (batch_at (places_of log) i == j) 0 j));
+  online = λ key j known. if_none (nat_le 0 j) ∙ sym (fold_none (add key.store) (log_values log key) _ (λ i. no_four (is_of_shard (places_of log) shard key) (batch_at (places_of log) i == j) (nat_le 0 j)));
 }
   where
     none : Option E
@@ -102,42 +103,42 @@ new_folds {E} stores add job own = record {
     if_none false = refl
 
 -- what is kept after a flush is valid
-pub flushed_valid : {E : Type 0} (d : Dictionaries E) (parcel : Parcel E) (h : Held E) → AreValid d (kept_by h) → AreValid d (elements parcel.parts) → AreValid d (kept_by (flushed h parcel))
+pub flushed_valid : {E : Type 0} (d : Dictionaries E) (parcel : Parcel E) (h : ShardValue E) → AreValid d (kept_by h) → AreValid d (keyed_values parcel.parts) → AreValid d (kept_by (flushed h parcel))
 flushed_valid d parcel h kept parts =
     let late = parts_from (length h.rows) parcel.parts in
-    valid_append _ (elements (h.parts ++ late)) (flat_map (λ rows. rows) h.rows)
-    (elements_append d h.parts late (valid_left _ (elements h.parts) (flat_map (λ rows. rows) h.rows) kept) (elements_filter d (λ part. nat_le (length h.rows) part.batch) parcel.parts parts))
-    (valid_right _ (elements h.parts) (flat_map (λ rows. rows) h.rows) kept)
+    valid_append _ (keyed_values (h.parts ++ late)) (flat_map (λ rows. rows) h.rows)
+    (keyed_append d h.parts late (valid_left _ (keyed_values h.parts) (flat_map (λ rows. rows) h.rows) kept) (keyed_filter d (λ part. nat_le (length h.rows) part.batch) parcel.parts parts))
+    (valid_right _ (keyed_values h.parts) (flat_map (λ rows. rows) h.rows) kept)
 
-module _ {E : Type 0} (d : Dictionaries E) (parcel : Parcel E) (h : Held E) (job : Job E) (own : KeyBytes → Bool) (commute : Commute d) (valid : IsJobOf d job) (of : IsParcelOf d job own parcel) (fresh : ShareNone h.cover parcel.chunks) (stands : StandsBy d job own (shard_sums d.add h)) where
+module _ {E : Type 0} (d : Dictionaries E) (parcel : Parcel E) (h : ShardValue E) (log : CutLog E) (shard : ℕ) (commute : Commute d) (valid : IsLogOf d log) (of : IsParcelOf d log shard parcel) (fresh : ShareNone h.cover parcel.chunks) (stands : IsShardOf d log shard (shard_sums d.add h)) where
   if_both : (add : E → E → E) (t : Bool) (a b : Option E) → cond t (both_sums add a (cond t b None)) None ≡ both_sums add (cond t a None) (cond t b None)
   if_both add true a b = refl
   if_both add false a b = refl
 
-  parts_valid : AreValid d (elements h.parts)
-  parts_valid = valid_left _ (elements h.parts) (flat_map (λ rows. rows) h.rows) stands.valid
+  parts_valid : AreValid d (keyed_values h.parts)
+  parts_valid = valid_left _ (keyed_values h.parts) (flat_map (λ rows. rows) h.rows) stands.valid
 
   flushed_online : (key : KeyBytes) (j : ℕ) → key.store < d.stores
       → cond (nat_le (length h.rows) j) (sum_at d.add key j (h.parts ++ parts_from (length h.rows) parcel.parts)) None
-      ≡ fold_of d.add job key (λ i. own key && (batch_of job i == j && (nat_le (length h.rows) j && is_in (union h.cover parcel.chunks) (chunk_of job i))))
+      ≡ log_fold d.add log key (λ i. is_of_shard (places_of log) shard key && (batch_at (places_of log) i == j && (nat_le (length h.rows) j && is_in (union h.cover parcel.chunks) (chunk_at (places_of log) i))))
   flushed_online key j known =
       let p = length h.rows in
       let a = d.add key.store in
-      let xs = of_key job key in
+      let xs = log_values log key in
       let laws = commute key.store known in
       let late = parts_from p parcel.parts in
-      ap (λ x. cond (nat_le p j) x None) (sum_both d key j h.parts late laws.semigroup parts_valid (elements_filter d (λ part. nat_le p part.batch) parcel.parts of.valid) ∙ ap (both_sums a (sum_at d.add key j h.parts)) (sum_filter d.add (λ b. nat_le p b) key j parcel.parts))
+      ap (λ x. cond (nat_le p j) x None) (sum_both d key j h.parts late laws.semigroup parts_valid (keyed_filter d (λ part. nat_le p part.batch) parcel.parts of.valid) ∙ ap (both_sums a (sum_at d.add key j h.parts)) (sum_filter d.add (λ b. nat_le p b) key j parcel.parts))
       ∙ (if_both a (nat_le p j) (sum_at d.add key j h.parts) (sum_at d.add key j parcel.parts)
       ∙ (ap_both (both_sums a) (stands.folds.online key j known)
       (ap (λ x. cond (nat_le p j) x None) (of.sums key j known)
-      ∙ (sym (fold_if a xs (nat_le p j) (λ i. own key && (batch_of job i == j && is_in parcel.chunks (chunk_of job i))))
-      ∙ fold_same a xs _ (λ i. own key && (batch_of job i == j && (nat_le p j && is_in parcel.chunks (chunk_of job i)))) (λ i. inwards (nat_le p j) (own key) (batch_of job i == j) (is_in parcel.chunks (chunk_of job i)))))
-      ∙ sym (fold_splits (d.valid key.store) a laws xs _ _ _ (of_key_valid d key job valid) (λ i.
-      split_and (own key) _ _ _ (split_and (batch_of job i == j) _ _ _ (split_and (nat_le p j) _ _ _
-      (subst (λ u. IsSplit u (is_in h.cover (chunk_of job i)) (is_in parcel.chunks (chunk_of job i))) (sym (in_union (chunk_of job i) h.cover parcel.chunks))
-      (split_or (is_in h.cover (chunk_of job i)) (is_in parcel.chunks (chunk_of job i)) (fresh (chunk_of job i))))))))))
+      ∙ (sym (fold_if a xs (nat_le p j) (λ i. is_of_shard (places_of log) shard key && (batch_at (places_of log) i == j && is_in parcel.chunks (chunk_at (places_of log) i))))
+      ∙ fold_same a xs _ (λ i. is_of_shard (places_of log) shard key && (batch_at (places_of log) i == j && (nat_le p j && is_in parcel.chunks (chunk_at (places_of log) i)))) (λ i. inwards (nat_le p j) (is_of_shard (places_of log) shard key) (batch_at (places_of log) i == j) (is_in parcel.chunks (chunk_at (places_of log) i)))))
+      ∙ sym (fold_splits (d.valid key.store) a laws xs _ _ _ (log_values_valid d key log valid) (λ i.
+      split_and (is_of_shard (places_of log) shard key) _ _ _ (split_and (batch_at (places_of log) i == j) _ _ _ (split_and (nat_le p j) _ _ _
+      (subst (λ u. IsSplit u (is_in h.cover (chunk_at (places_of log) i)) (is_in parcel.chunks (chunk_at (places_of log) i))) (sym (in_union (chunk_at (places_of log) i) h.cover parcel.chunks))
+      (split_or (is_in h.cover (chunk_at (places_of log) i)) (is_in parcel.chunks (chunk_at (places_of log) i)) (fresh (chunk_at (places_of log) i))))))))))
 
-  pub stands_flushed : StandsBy d job own (shard_sums d.add (flushed h parcel))
+  pub stands_flushed : IsShardOf d log shard (shard_sums d.add (flushed h parcel))
   stands_flushed = record {
     folds = record {
       floor = stands.folds.floor;
@@ -189,31 +190,31 @@ if_and true true a e = refl
 if_and true false a e = cc
 if_and false u a e = refl
 
-module _ {E : Type 0} (next : Rows E) (before after : Held E) (installed : IsInstalled next before after) (stores : ℕ) (add : ℕ → E → E → E) (job : Job E) (own : KeyBytes → Bool) (from : next.from ≡ length before.rows) (to : next.to ≡ length before.rows + 1) (rows : AreRowsBy stores add job own next) (below : length before.rows < batch_count job.records) (folds : AreFoldsOf stores add job own (shard_sums add before)) where
+module _ {E : Type 0} (next : Rows E) (before after : ShardValue E) (installed : IsInstalled next before after) (stores : ℕ) (add : ℕ → E → E → E) (log : CutLog E) (shard : ℕ) (from : next.from ≡ length before.rows) (to : next.to ≡ length before.rows + 1) (rows : AreRowsBy stores add log shard next) (below : length before.rows < batches_of (places_of log)) (folds : AreFoldsOf stores add log shard (shard_sums add before)) where
   grown : length after.rows ≡ length before.rows + 1
   grown = ap length installed.rows ∙ length-append before.rows (next.rows ∷ [])
 
   installed_published : (key : KeyBytes) (j : ℕ) → key.store < stores → (order : Bool) (same : Bool) → nat_lt j (length before.rows) ≡ order → (j == length before.rows) ≡ same
-      → find key_order key (get_or after.rows j []) ≡ fold_of add job key (λ i. own key && (batch_of job i == j && (nat_le 0 j && nat_lt j (length after.rows))))
+      → find key_order key (get_or after.rows j []) ≡ log_fold add log key (λ i. is_of_shard (places_of log) shard key && (batch_at (places_of log) i == j && (nat_le 0 j && nat_lt j (length after.rows))))
   installed_published key j known true same e f =
       ap (find key_order key) (ap (λ lists. get_or lists j []) installed.rows ∙ earlier_place before.rows next.rows j (grind (arith, nat_tests)))
       ∙ (folds.published key j known
-      ∙ fold_same (add key.store) (of_key job key) _ _ (λ i. ap (λ t. own key && (batch_of job i == j && (nat_le 0 j && t))) (e ∙ sym later)))
+      ∙ fold_same (add key.store) (log_values log key) _ _ (λ i. ap (λ t. is_of_shard (places_of log) shard key && (batch_at (places_of log) i == j && (nat_le 0 j && t))) (e ∙ sym later)))
     where
       later : nat_lt j (length after.rows) ≡ true
       later = grind (arith, nat_tests, grown)
   installed_published key j known false true e f =
       let is : j ≡ length before.rows = grind (arith, nat_tests) in
       ap (find key_order key) (ap (λ lists. get_or lists j []) installed.rows ∙ (ap (λ n. get_or (before.rows ++ next.rows ∷ []) n []) is ∙ last_place before.rows next.rows))
-      ∙ (rows.sums key known
-      ∙ fold_same (add key.store) (of_key job key) _ _ (λ i.
-      ap (λ n. own key && (nat_le n (batch_of job i) && nat_lt (batch_of job i) next.to)) from
-      ∙ (ap (λ n. own key && (nat_le (length before.rows) (batch_of job i) && nat_lt (batch_of job i) n)) (to ∙ sym grown)
-      ∙ (at_next (own key) (batch_of job i) (length before.rows) (length after.rows) grown
-      ∙ ap (λ n. own key && (batch_of job i == n && (nat_le 0 n && nat_lt n (length after.rows)))) (sym is)))))
+      ∙ (rows key known
+      ∙ fold_same (add key.store) (log_values log key) _ _ (λ i.
+      ap (λ n. is_of_shard (places_of log) shard key && (nat_le n (batch_at (places_of log) i) && nat_lt (batch_at (places_of log) i) next.to)) from
+      ∙ (ap (λ n. is_of_shard (places_of log) shard key && (nat_le (length before.rows) (batch_at (places_of log) i) && nat_lt (batch_at (places_of log) i) n)) (to ∙ sym grown)
+      ∙ (at_next (is_of_shard (places_of log) shard key) (batch_at (places_of log) i) (length before.rows) (length after.rows) grown
+      ∙ ap (λ n. is_of_shard (places_of log) shard key && (batch_at (places_of log) i == n && (nat_le 0 n && nat_lt n (length after.rows)))) (sym is)))))
   installed_published key j known false false e f =
       ap (find key_order key) (no_place after.rows j (grind (arith, nat_tests, grown)))
-      ∙ sym (fold_none (add key.store) (of_key job key) _ (λ i. ap (λ t. own key && (batch_of job i == j && (nat_le 0 j && t))) beyond ∙ no_four (own key) (batch_of job i == j) (nat_le 0 j)))
+      ∙ sym (fold_none (add key.store) (log_values log key) _ (λ i. ap (λ t. is_of_shard (places_of log) shard key && (batch_at (places_of log) i == j && (nat_le 0 j && t))) beyond ∙ no_four (is_of_shard (places_of log) shard key) (batch_at (places_of log) i == j) (nat_le 0 j)))
     where
       beyond : nat_lt j (length after.rows) ≡ false
       beyond = grind (arith, nat_tests, grown)
@@ -227,20 +228,20 @@ module _ {E : Type 0} (next : Rows E) (before after : Held E) (installed : IsIns
       ∙ if_twice (nat_le (length after.rows) j) (sum_at add key j before.parts))
 
   installed_online : (key : KeyBytes) (j : ℕ) → key.store < stores
-      → cond (nat_le (length after.rows) j) (sum_at add key j after.parts) None ≡ fold_of add job key (λ i. own key && (batch_of job i == j && (nat_le (length after.rows) j && is_in after.cover (chunk_of job i))))
+      → cond (nat_le (length after.rows) j) (sum_at add key j after.parts) None ≡ log_fold add log key (λ i. is_of_shard (places_of log) shard key && (batch_at (places_of log) i == j && (nat_le (length after.rows) j && is_in after.cover (chunk_at (places_of log) i))))
   installed_online key j known =
       let q = length after.rows in
       let a = add key.store in
-      let xs = of_key job key in
+      let xs = log_values log key in
       let and = joined_later (length before.rows) q j grown in
       swept_sum key j installed.parts
       ∙ (if_and (nat_le q j) (nat_le (length before.rows) j) (sum_at add key j before.parts) and
       ∙ (ap (λ x. cond (nat_le q j) x None) (folds.online key j known)
-      ∙ (sym (fold_if a xs (nat_le q j) (λ i. own key && (batch_of job i == j && (nat_le (length before.rows) j && is_in before.cover (chunk_of job i)))))
-      ∙ fold_same a xs _ _ (λ i. inwards_joined (nat_le q j) (own key) (batch_of job i == j) (nat_le (length before.rows) j) (is_in before.cover (chunk_of job i)) and
-      ∙ ap (λ cover. own key && (batch_of job i == j && (nat_le q j && is_in cover (chunk_of job i)))) (sym installed.cover)))))
+      ∙ (sym (fold_if a xs (nat_le q j) (λ i. is_of_shard (places_of log) shard key && (batch_at (places_of log) i == j && (nat_le (length before.rows) j && is_in before.cover (chunk_at (places_of log) i)))))
+      ∙ fold_same a xs _ _ (λ i. inwards_joined (nat_le q j) (is_of_shard (places_of log) shard key) (batch_at (places_of log) i == j) (nat_le (length before.rows) j) (is_in before.cover (chunk_at (places_of log) i)) and
+      ∙ ap (λ cover. is_of_shard (places_of log) shard key && (batch_at (places_of log) i == j && (nat_le q j && is_in cover (chunk_at (places_of log) i)))) (sym installed.cover)))))
 
-  pub folds_installed : AreFoldsOf stores add job own (shard_sums add after)
+  pub folds_installed : AreFoldsOf stores add log shard (shard_sums add after)
   folds_installed = record {
     floor = omega arith;
     last = omega (arith, below, grown);
@@ -250,39 +251,39 @@ module _ {E : Type 0} (next : Rows E) (before after : Held E) (installed : IsIns
     online = installed_online;
   }
 
-elements_more : {E : Type 0} (x : Part E) (xs ys : List (Part E)) (row : KeyBytes × E) → (Contains (elements xs) row → Contains (elements ys) row) → Contains (elements (x ∷ xs)) row → Contains (elements (x ∷ ys)) row
-elements_more x xs ys row f h = joined (Contains-append_cases ((x.key, x.value) ∷ []) (elements xs) row h)
+elements_more : {E : Type 0} (x : Part E) (xs ys : List (Part E)) (row : KeyBytes × E) → (Contains (keyed_values xs) row → Contains (keyed_values ys) row) → Contains (keyed_values (x ∷ xs)) row → Contains (keyed_values (x ∷ ys)) row
+elements_more x xs ys row f h = joined (Contains-append_cases ((x.key, x.value) ∷ []) (keyed_values xs) row h)
   where
-    joined : Contains ((x.key, x.value) ∷ []) row ⊎ Contains (elements xs) row → Contains (elements (x ∷ ys)) row
-    joined (inl k) = Contains-append_left ((x.key, x.value) ∷ []) (elements ys) row k
-    joined (inr k) = Contains-append_right ((x.key, x.value) ∷ []) (elements ys) row (f k)
+    joined : Contains ((x.key, x.value) ∷ []) row ⊎ Contains (keyed_values xs) row → Contains (keyed_values (x ∷ ys)) row
+    joined (inl k) = Contains-append_left ((x.key, x.value) ∷ []) (keyed_values ys) row k
+    joined (inr k) = Contains-append_right ((x.key, x.value) ∷ []) (keyed_values ys) row (f k)
 
-elements_left : {E : Type 0} (s : Part E → Bool) (xs : List (Part E)) (row : KeyBytes × E) → Contains (elements (filter s xs)) row → Contains (elements xs) row
+elements_left : {E : Type 0} (s : Part E → Bool) (xs : List (Part E)) (row : KeyBytes × E) → Contains (keyed_values (filter s xs)) row → Contains (keyed_values xs) row
 elements_left s [] row h = h
 elements_left s (x ∷ xs) row h =
-    elim (s x) as (λ b. Contains (elements (cond b (x ∷ filter s xs) (filter s xs))) row → Contains (elements (x ∷ xs)) row) [
+    elim (s x) as (λ b. Contains (keyed_values (cond b (x ∷ filter s xs) (filter s xs))) row → Contains (keyed_values (x ∷ xs)) row) [
       | true ↦ λ k. elements_more x (filter s xs) xs row (elements_left s xs row) k
-      | false ↦ λ k. Contains-append_right ((x.key, x.value) ∷ []) (elements xs) row (elements_left s xs row k)
+      | false ↦ λ k. Contains-append_right ((x.key, x.value) ∷ []) (keyed_values xs) row (elements_left s xs row k)
     ] h
 
-module _ {E : Type 0} (next : Rows E) (before after : Held E) (installed : IsInstalled next before after) (row : KeyBytes × E) where
+module _ {E : Type 0} (next : Rows E) (before after : ShardValue E) (installed : IsInstalled next before after) (row : KeyBytes × E) where
   rows_grown : flat_map (λ rows. rows) after.rows ≡ flat_map (λ rows. rows) before.rows ++ next.rows
   rows_grown =
       ap (flat_map (λ rows. rows)) installed.rows
       ∙ (flat_map-append (λ rows. rows) before.rows (next.rows ∷ []) ∙ ap (λ l. flat_map (λ rows. rows) before.rows ++ l) (append-nil next.rows))
 
-  parts_left : AreSwept (length after.rows) before.parts after.parts → Contains (elements after.parts) row → Contains (elements before.parts) row
-  parts_left (inl e) h = subst (λ parts. Contains (elements parts) row) e h
-  parts_left (inr e) h = elements_left (λ part. nat_le (length after.rows) part.batch) before.parts row (subst (λ parts. Contains (elements parts) row) e h)
+  parts_left : AreSwept (length after.rows) before.parts after.parts → Contains (keyed_values after.parts) row → Contains (keyed_values before.parts) row
+  parts_left (inl e) h = subst (λ parts. Contains (keyed_values parts) row) e h
+  parts_left (inr e) h = elements_left (λ part. nat_le (length after.rows) part.batch) before.parts row (subst (λ parts. Contains (keyed_values parts) row) e h)
 
   rows_left : Contains (flat_map (λ rows. rows) before.rows) row ⊎ Contains next.rows row → Contains (kept_by before) row ⊎ Contains next.rows row
-  rows_left (inl h) = inl (Contains-append_right (elements before.parts) (flat_map (λ rows. rows) before.rows) row h)
+  rows_left (inl h) = inl (Contains-append_right (keyed_values before.parts) (flat_map (λ rows. rows) before.rows) row h)
   rows_left (inr h) = inr h
 
-  kept_cases : Contains (elements after.parts) row ⊎ Contains (flat_map (λ rows. rows) after.rows) row → Contains (kept_by before) row ⊎ Contains next.rows row
-  kept_cases (inl h) = inl (Contains-append_left (elements before.parts) (flat_map (λ rows. rows) before.rows) row (parts_left installed.parts h))
+  kept_cases : Contains (keyed_values after.parts) row ⊎ Contains (flat_map (λ rows. rows) after.rows) row → Contains (kept_by before) row ⊎ Contains next.rows row
+  kept_cases (inl h) = inl (Contains-append_left (keyed_values before.parts) (flat_map (λ rows. rows) before.rows) row (parts_left installed.parts h))
   kept_cases (inr h) = rows_left (Contains-append_cases (flat_map (λ rows. rows) before.rows) next.rows row (subst (λ l. Contains l row) rows_grown h))
 
   -- what is kept after an installation was kept before or came with it
   pub keeps_only : Contains (kept_by after) row → Contains (kept_by before) row ⊎ Contains next.rows row
-  keeps_only h = kept_cases (Contains-append_cases (elements after.parts) (flat_map (λ rows. rows) after.rows) row h)
+  keeps_only h = kept_cases (Contains-append_cases (keyed_values after.parts) (flat_map (λ rows. rows) after.rows) row h)

@@ -11,7 +11,7 @@ use Rattle.sb_feed.specs.declared.key.KeyBytes.{KeyBytes}
 use Rattle.sb_feed.specs.declared.parts.Part.{Part}
 use Rattle.sb_feed.specs.Keys.{key_order, same_key}
 use Rattle.sb_feed.specs.Stands.{batch_value, key_values, sum_at}
-use Rattle.sb_shard.specs.Shards.{Held, shard_sums, published_sum, online_sum}
+use Rattle.sb_shard.specs.Shards.{ShardValue, shard_sums, published_sum, online_sum}
 use Rattle.sb_shard.specs.Asks.{HasSum, HasKeys}
 
 -- a sum is there exactly where a value is
@@ -93,7 +93,7 @@ module _ {E : Type 0} (q : KeyBytes) where
   some_row [] = refl
   some_row (x ∷ xs) = elim (same_key q x.0) as (λ b. is_some (cond b (Some x.1) (find key_order q xs)) ≡ (b || list_any (λ row. same_key q row.0) xs)) [ true ↦ refl | false ↦ some_row xs ]
 
-  module _ (add : ℕ → E → E → E) (held : Held E) where
+  module _ (add : ℕ → E → E → E) (held : ShardValue E) where
     of_row : list_any (list_any (λ row. same_key q row.0)) held.rows ≡ true → (j : ℕ) × IsSome (published_sum held q j)
     of_row e = let p = any_at (list_any (λ (row : KeyBytes × E). same_key q row.0)) held.rows e in (p.0, some_row (get_or held.rows p.0 []) ∙ p.1)
 
@@ -136,7 +136,7 @@ module _ {E : Type 0} (q : KeyBytes) where
         back (inr (inr k)) = e ∙ right _ _ (part_of k.0 k.1)
 
 -- a rising list of these keys
-pub held_keys : {E : Type 0} (held : Held E) (list : List KeyBytes) → IsStrictlySortedBy key_order list
+pub held_keys : {E : Type 0} (held : ShardValue E) (list : List KeyBytes) → IsStrictlySortedBy key_order list
     → ((q : KeyBytes) → list_any (same_key q) list ≡ (list_any (list_any (λ row. same_key q row.0)) held.rows || list_any (λ part. same_key q part.key && nat_le (length held.rows) part.batch) held.parts))
     → (add : ℕ → E → E → E) → HasKeys (shard_sums add held) list
 held_keys held list rising each add = record { rising = rising; each = λ q. has_sum q add held (list_any (same_key q) list) (each q) }
@@ -148,7 +148,7 @@ abbrev of_parts : {E : Type 0} → KeyBytes → ℕ → List (Part E) → Bool
 of_parts q p parts = list_any (λ part. same_key q part.key && nat_le p part.batch) parts
 
 -- the keys that were put into an empty set, first those of the rows and then those of the parts
-pub put_in_turn : {E : Type 0} (held : Held E) (none some all list : List KeyBytes) (rows : List (List (KeyBytes × E))) (parts : List (Part E)) (p : ℕ) → none ≡ [] → rows ≡ held.rows → parts ≡ held.parts → p ≡ length held.rows
+pub put_in_turn : {E : Type 0} (held : ShardValue E) (none some all list : List KeyBytes) (rows : List (List (KeyBytes × E))) (parts : List (Part E)) (p : ℕ) → none ≡ [] → rows ≡ held.rows → parts ≡ held.parts → p ≡ length held.rows
     → ((q : KeyBytes) → list_any (same_key q) some ≡ (list_any (same_key q) none || list_any (list_any (λ row. same_key q row.0)) rows))
     → ((q : KeyBytes) → list_any (same_key q) all ≡ (list_any (same_key q) some || list_any (λ part. same_key q part.key && nat_le p part.batch) parts))
     → list ≡ all

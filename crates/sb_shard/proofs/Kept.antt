@@ -3,12 +3,12 @@ use Rattle.std.proofs.Common.{◌<◌, ◌⊎◌, inl, inr}
 use Rattle.std.specs.Prelude.{Contains}
 use Rattle.std.proofs.lemmas.List.Elements.{All-from_recursion, recursion_from_All, All-weaker, All-contains, All-contains_itself}
 use Rattle.sb_feed.specs.declared.key.KeyBytes.{KeyBytes}
-use Rattle.sb_feed.specs.declared.parts.Rows.{Rows}
+use Rattle.sb_feed.specs.declared.rows.Rows.{Rows}
 use Rattle.sb_feed.specs.Jobs.{Dictionaries, AreValid}
-use Rattle.sb_shard.specs.Shards.{Held, kept_by}
+use Rattle.sb_shard.specs.Shards.{ShardValue, kept_by}
 use Rattle.sb_shard.specs.Events.{KeepsOnly}
 
-module _ {E : Type 0} (d : Dictionaries E) (next : Rows E) (before after : Held E) where
+module _ {E : Type 0} (d : Dictionaries E) (next : Rows E) (before after : ShardValue E) where
   abbrev IsFine : KeyBytes × E → Type 0
   IsFine row = (row.0.store < d.stores) × d.valid row.0.store row.1
 

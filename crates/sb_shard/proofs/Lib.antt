@@ -1,10 +1,9 @@
 pub mod Placing
-pub mod Gathered
+pub mod BatchSums
 pub mod Events
 pub mod Asked
 pub mod KeySets
 pub mod HeldKeys
 pub mod Merged
-pub mod Totals
 pub mod Drained
 pub mod Kept

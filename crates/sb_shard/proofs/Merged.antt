@@ -1,6 +1,6 @@
 -- Base, published and online sums up to a batch make the fold over the named positions.
 use Rattle.std.proofs.Common.{◌≡◌, ℕ, zero, suc, ◌+◌, ◌<◌, ◌≤◌, Bool, true, false, cond, ◌&&◌, List, [], ◌∷◌, ◌++◌, map, filter, Option, Some, None, refl, sym, ap, subst, ◌∙◌, T, arith}
-use Rattle.std.specs.Prelude.{nat_lt, nat_le, ◌==◌}
+use Rattle.std.specs.Prelude.{nat_lt, nat_le, ◌==◌, IsTrue}
 use Rattle.std.specs.List.{AllByRecursion}
 use Rattle.std.specs.Ordering.{nat_cmp, eq_by_cmp, is_lt}
 use Rattle.std.specs.Cmp.{nat_cmp_total, unsigned_tied}
@@ -14,11 +14,12 @@ use Rattle.sb_laws.proofs.Positions.{ap_both, fold_same, fold_none, fold_splits,
 use Rattle.sb_laws.proofs.Sets.{split_and, below_suc, below_or, at_equal}
 use Rattle.sb_laws.proofs.Tables.{first, second, truly, find_none}
 use Rattle.sb_feed.specs.declared.key.KeyBytes.{KeyBytes}
-use Rattle.sb_feed.specs.Jobs.{Job, Dictionaries, Commute, IsJobOf, batch_of, chunk_of, of_key, fold_of, is_in, is_named}
-use Rattle.sb_feed.specs.Stands.{ShardSums, StandsBy, HasSums}
-use Rattle.sb_feed.proofs.JobValues.{of_key_valid}
+use Rattle.sb_feed.specs.Places.{batch_at, chunk_at, is_of_shard, is_in, is_named}
+use Rattle.sb_feed.specs.Jobs.{CutLog, Dictionaries, Commute, IsLogOf, places_of, log_values, log_fold}
+use Rattle.sb_feed.specs.Stands.{ShardSums, IsShardOf, HasSums}
+use Rattle.sb_feed.proofs.LogValues.{log_values_valid}
 use Rattle.sb_shard.specs.declared.answer.Answer.{Answer}
-use Rattle.sb_shard.specs.Asks.{Answers, one_or_none, values_of}
+use Rattle.sb_shard.specs.Asks.{AnswersOf, one_or_none, values_of}
 
 is_below : (m n : ℕ) → T (is_lt (nat_cmp m n)) → m < n
 is_below m n h = tested (nat_lt m n) (m == n) refl refl h
@@ -117,10 +118,9 @@ module _ {E : Type 0} (V : E → Type 0) (add : E → E → E) (laws : Commuting
       ap (λ (l : List (ℕ × E)). x ∷ l) (all_kept n xs h.1) ∙ sym (ap (λ (t : Bool). cond t (x ∷ filter (λ y. nat_lt y.0 (suc n)) xs) (filter (λ y. nat_lt y.0 (suc n)) xs)) below)
 
   -- the sums of the batches up to one, added
-  sum_up_to : (upto : ℕ) (pairs xs : List (ℕ × E)) (b : ℕ → ℕ) (u : ℕ → Bool) (sums : ℕ → Option E) → HasSums V upto sums pairs → AllByRecursion (λ x. V x.1) xs
+  sum_up_to : (upto : ℕ) (pairs xs : List (ℕ × E)) (b : ℕ → ℕ) (u : ℕ → Bool) (sums : ℕ → Option E) → T (is_sorted nat_cmp pairs) → HasSums V upto sums pairs → AllByRecursion (λ x. V x.1) xs
       → ((j : ℕ) → sums j ≡ fold_over add xs (λ i. b i == j && u i)) → sum_of add (map (λ pair. pair.1) pairs) ≡ fold_over add xs (λ i. nat_le (b i) upto && u i)
-  sum_up_to upto pairs xs b u sums has k each =
-      let rising = truly _ has.rising in
+  sum_up_to upto pairs xs b u sums rising has k each =
       ap (λ (l : List (ℕ × E)). sum_of add (map (λ x. x.1) l)) (all_kept upto pairs (none_later upto pairs rising (λ j late. has.each j ∙ ap (λ t. cond t (sums j) None) late)))
       ∙ (same_below (suc upto) pairs xs b u has.valid k (λ j less.
       fold_found add j pairs rising ∙ (has.each j ∙ (ap (λ t. cond t (sums j) None) (let within : nat_le j upto ≡ true = grind (arith, nat_tests) in within) ∙ each j)))
@@ -165,26 +165,26 @@ base_cases b f p upto true false false false h g x y z w = tt
 base_cases b f p upto false l true n h g x y z w = absurd (grind (arith, nat_tests))
 base_cases b f p upto false l false n h g x y z w = tt
 
-module _ {E : Type 0} (d : Dictionaries E) (job : Job E) (own : KeyBytes → Bool) (commute : Commute d) (of : IsJobOf d job) where
-  -- what a shard that stands for a job answers, added, is the fold over the named positions
-  pub merged : (s : ShardSums E) (key : KeyBytes) (upto : ℕ) (answer : Answer E) → StandsBy d job own s → key.store < d.stores → own key ≡ true → s.f ≤ upto + 1 → Answers (d.valid key.store) s key upto answer
-      → sum_of (d.add key.store) (values_of answer) ≡ fold_of d.add job key (is_named job upto s.p s.cover)
-  merged s key upto answer stands known mine unexpired has =
+module _ {E : Type 0} (d : Dictionaries E) (log : CutLog E) (shard : ℕ) (commute : Commute d) (of : IsLogOf d log) where
+  -- what a shard that stands for a log answers, added, is the fold over the named positions
+  pub merged : (s : ShardSums E) (key : KeyBytes) (upto : ℕ) (answer : Answer E) → IsShardOf d log shard s → key.store < d.stores → is_of_shard (places_of log) shard key ≡ true → s.floor ≤ upto + 1 → IsTrue (is_sorted nat_cmp answer.published) → IsTrue (is_sorted nat_cmp answer.online) → AnswersOf (d.valid key.store) s key upto answer
+      → sum_of (d.add key.store) (values_of answer) ≡ log_fold d.add log key (is_named (places_of log) upto s.published_to s.cover)
+  merged s key upto answer stands known mine unexpired up_published up_online has =
       let v = d.valid key.store in
       let a = d.add key.store in
       let l = commute key.store known in
-      let xs = of_key job key in
-      let valid = of_key_valid d key job of in
-      let b = batch_of job in
-      let base : answer.base ≡ fold_over a xs (λ i. nat_lt (b i) s.f) = has.base ∙ (stands.folds.base key known ∙ fold_same a xs _ (λ i. nat_lt (b i) s.f) (λ i. mine_alone (own key) _ mine)) in
-      three_sums v a l answer.base answer.published answer.online (subst (IsValid v) (sym base) (fold_valid v a l.semigroup xs (λ i. nat_lt (b i) s.f) valid)) has.published.valid has.online.valid
+      let xs = log_values log key in
+      let valid = log_values_valid d key log of in
+      let b = batch_at (places_of log) in
+      let base : answer.base ≡ fold_over a xs (λ i. nat_lt (b i) s.floor) = has.base ∙ (stands.folds.base key known ∙ fold_same a xs _ (λ i. nat_lt (b i) s.floor) (λ i. mine_alone (is_of_shard (places_of log) shard key) _ mine)) in
+      three_sums v a l answer.base answer.published answer.online (subst (IsValid v) (sym base) (fold_valid v a l.semigroup xs (λ i. nat_lt (b i) s.floor) valid)) has.published.valid has.online.valid
       ∙ (ap_both (both_sums a) base
       (ap_both (both_sums a)
-      (sum_up_to v a l upto answer.published xs b (λ i. nat_le s.f (b i) && nat_lt (b i) s.p) (s.published key) has.published valid
-      (λ j. stands.folds.published key j known ∙ fold_same a xs _ _ (λ i. mine_alone (own key) _ mine ∙ at_equal (b i) j (λ k. nat_le s.f k && nat_lt k s.p))))
-      (sum_up_to v a l upto answer.online xs b (λ i. nat_le s.p (b i) && is_in s.cover (chunk_of job i)) (s.online key) has.online valid
-      (λ j. stands.folds.online key j known ∙ fold_same a xs _ _ (λ i. mine_alone (own key) _ mine ∙ at_equal (b i) j (λ k. nat_le s.p k && is_in s.cover (chunk_of job i))))))
-      ∙ (sym (both_associates v a l.semigroup _ _ _ (fold_valid v a l.semigroup xs (λ i. nat_lt (b i) s.f) valid) (fold_valid v a l.semigroup xs _ valid) (fold_valid v a l.semigroup xs _ valid))
-      ∙ (ap (λ x. both_sums a x (fold_over a xs (λ i. nat_le (b i) upto && (nat_le s.p (b i) && is_in s.cover (chunk_of job i)))))
-      (sym (fold_splits v a l xs (λ i. nat_le (b i) upto && nat_lt (b i) s.p) _ _ valid (λ i. base_cases (b i) s.f s.p upto _ _ _ _ stands.folds.floor unexpired refl refl refl refl)))
-      ∙ sym (fold_splits v a l xs _ _ _ valid (λ i. split_and (nat_le (b i) upto) _ _ _ (below_or (b i) s.p (is_in s.cover (chunk_of job i))))))))
+      (sum_up_to v a l upto answer.published xs b (λ i. nat_le s.floor (b i) && nat_lt (b i) s.published_to) (s.published key) (truly _ up_published) has.published valid
+      (λ j. stands.folds.published key j known ∙ fold_same a xs _ _ (λ i. mine_alone (is_of_shard (places_of log) shard key) _ mine ∙ at_equal (b i) j (λ k. nat_le s.floor k && nat_lt k s.published_to))))
+      (sum_up_to v a l upto answer.online xs b (λ i. nat_le s.published_to (b i) && is_in s.cover (chunk_at (places_of log) i)) (s.online key) (truly _ up_online) has.online valid
+      (λ j. stands.folds.online key j known ∙ fold_same a xs _ _ (λ i. mine_alone (is_of_shard (places_of log) shard key) _ mine ∙ at_equal (b i) j (λ k. nat_le s.published_to k && is_in s.cover (chunk_at (places_of log) i))))))
+      ∙ (sym (both_associates v a l.semigroup _ _ _ (fold_valid v a l.semigroup xs (λ i. nat_lt (b i) s.floor) valid) (fold_valid v a l.semigroup xs _ valid) (fold_valid v a l.semigroup xs _ valid))
+      ∙ (ap (λ x. both_sums a x (fold_over a xs (λ i. nat_le (b i) upto && (nat_le s.published_to (b i) && is_in s.cover (chunk_at (places_of log) i)))))
+      (sym (fold_splits v a l xs (λ i. nat_le (b i) upto && nat_lt (b i) s.published_to) _ _ valid (λ i. base_cases (b i) s.floor s.published_to upto _ _ _ _ stands.folds.floor unexpired refl refl refl refl)))
+      ∙ sym (fold_splits v a l xs _ _ _ valid (λ i. split_and (nat_le (b i) upto) _ _ _ (below_or (b i) s.published_to (is_in s.cover (chunk_at (places_of log) i))))))))

@@ -1,5 +1,4 @@
 pub mod Shards
 pub mod Events
 pub mod Asks
-pub mod Gathering
-pub mod Draining
+pub mod ByBatch

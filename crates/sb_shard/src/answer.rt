@@ -1,6 +1,8 @@
+//! What a shard answers.
 use sb_feed::Sums;
 use sb_laws::NoMemory;
 use sb_text::Ranges;
+use thiserror::Error;
 
 /// What a shard holds of a key: its base, and one sum a batch. The base has the batches below the floor.
 #[derive(Debug, Drop)]
@@ -14,8 +16,9 @@ pub struct Answer<E> {
 }
 
 /// Why a shard gives no answer.
-#[derive(Clone, Copy, Debug, PartialEq, Eq)]
+#[derive(Clone, Copy, Debug, PartialEq, Eq, Error)]
 pub enum AskError {
+    #[error("out of memory")]
     NoMemory,
 }
 

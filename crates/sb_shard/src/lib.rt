@@ -2,14 +2,11 @@
 #![tactic(auto)]
 
 mod answer;
+mod by_batch;
 mod draining;
-mod gathering;
 mod key_set;
 mod shard;
 
 pub use answer::{Answer, AskError};
 pub use sb_laws::NoMemory;
 pub use shard::Shard;
-
-#[cfg(test)]
-mod tests;

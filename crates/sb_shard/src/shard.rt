@@ -1,24 +1,28 @@
-ghost use Rattle.std.specs.Prelude.{◌≡◌, ◌<◌, ◌+◌, ℕ, Bool, [], take, OnOk, OnErr, IfOk};
+//! A shard's sums by key and batch, and the events that change them.
+ghost use Rattle.std.specs.Prelude.{◌≡◌, ◌<◌, ◌+◌, ℕ, [], take, length, IsTrue, OnOk, OnErr, IfOk};
+ghost use Rattle.std.specs.FinMap.{is_sorted};
+ghost use Rattle.std.specs.Ordering.{nat_cmp};
 ghost use Rattle.sb_text.specs.Ranges.{union};
-ghost use Rattle.sb_feed.specs.Jobs.{Job, AreValid, dictionaries};
-ghost use Rattle.sb_feed.specs.Stands.{elements, AreFoldsOf, HasSums};
+ghost use Rattle.sb_feed.specs.Jobs.{CutLog, AreValid, meant};
+ghost use Rattle.sb_feed.specs.Stands.{keyed_values, AreFoldsOf, HasSums};
 ghost use Rattle.sb_shard.specs.Shards.{cover_of, published_to, floor_of, kept_by, published_sum, online_sum, shard_sums};
 ghost use Rattle.sb_shard.specs.Asks.{Answers, values_of, MakesNamed, Drains, HasKeys};
 ghost use Rattle.sb_shard.specs.Events.{ShareNone, FlushKeeps, InstallKeeps, KeepsOnly, parts_from, flushed, AreSwept, IsInstalled};
 
 use crate::answer::{Answer, AskError};
-use crate::draining::{add_lists, add_parts, rows_of};
-use crate::gathering::{gather, gather_rows};
+use crate::by_batch::{gather, gather_rows};
+use crate::draining::add_lists;
 use crate::key_set::{keys_of, put_part_keys, put_row_keys};
 use sb_feed::{Family, KeyBytes, Parcel, Part, RowList, Rows, Sums};
+use sb_job::KeySums;
 use sb_laws::{NoMemory, Semigroup};
 use sb_text::Ranges;
 use std::alloc::Global;
-use std::collections::{BTreeMap, BTreeSet};
+use std::collections::BTreeSet;
 use std::marker::Model;
 
-/// The sums of a shard's keys. A batch is published, and then its sums are the rows that were installed, or online, and
-/// then they are what was flushed.
+/// The sums of a shard's keys. A batch is published (its sums are the installed rows) or online (its sums are what was
+/// flushed).
 #[derive(Debug, Drop)]
 pub struct Shard<E> {
     parts: Vec<Part<E>>,
@@ -27,9 +31,9 @@ pub struct Shard<E> {
 }
 
 impl<E> Model for Shard<E> {
-    ghost use Rattle.sb_shard.specs.Shards.{Held};
+    ghost use Rattle.sb_shard.specs.Shards.{ShardValue};
 
-    ghost Value = { Held E };
+    ghost Value = { ShardValue E };
 
     ghost view = { λ s. record { parts = s.parts.items; rows = s.rows.items; cover = s.cover } };
 }
@@ -37,7 +41,8 @@ impl<E> Model for Shard<E> {
 impl<E: Drop> Shard<E> {
     /// No sums, no cover, and no published batch. Takes no memory.
     pub fn new(alloc: Global) -> Shard<E>
-        ensures folds { (stores : ℕ) (add : ℕ → E → E → E) (job : Job E) (own : KeyBytes → Bool) → AreFoldsOf stores add job own (shard_sums add result) }
+        ensures folds { (stores : ℕ) (add : ℕ → E → E → E) (log : CutLog E) (shard : ℕ)
+            → AreFoldsOf stores add log shard (shard_sums add result) }
         ensures kept { kept_by result ≡ [] }
         ensures cover { cover_of result ≡ [] }
         ensures numbers { (published_to result ≡ 0) × (floor_of result ≡ 0) }
@@ -73,12 +78,17 @@ impl<E: Drop> Shard<E> {
     where
         F::M: Semigroup<El = E>,
         requires fresh { ShareNone (cover_of self.old) parcel.chunks }
-        requires kept { AreValid (dictionaries F.M.valid F.M.add (F.stores family.now) (F.dictionary family.now)) (kept_by self.old) }
-        requires parts { AreValid (dictionaries F.M.valid F.M.add (F.stores family.now) (F.dictionary family.now)) (elements parcel.parts) }
+        requires kept { AreValid (meant F.M.valid F.M.add (F.monoids family.now))
+            (kept_by self.old) }
+        requires parts { AreValid (meant F.M.valid F.M.add (F.monoids family.now))
+            (keyed_values parcel.parts) }
         ensures cover { OnOk result (cover_of self.new ≡ union (cover_of self.old) parcel.chunks) }
-        ensures numbers { OnOk result ((published_to self.new ≡ published_to self.old) × (floor_of self.new ≡ floor_of self.old)) }
-        ensures valid { OnOk result (AreValid (dictionaries F.M.valid F.M.add (F.stores family.now) (F.dictionary family.now)) (kept_by self.new)) }
-        ensures stands { OnOk result (FlushKeeps (dictionaries F.M.valid F.M.add (F.stores family.now) (F.dictionary family.now)) parcel self.old self.new) }
+        ensures numbers { OnOk result ((published_to self.new ≡ published_to self.old)
+            × (floor_of self.new ≡ floor_of self.old)) }
+        ensures valid { OnOk result (AreValid (meant F.M.valid F.M.add (F.monoids family.now))
+            (kept_by self.new)) }
+        ensures stands { OnOk result (FlushKeeps F.M.valid F.M.add (F.monoids family.now) parcel
+            self.old self.new) }
         ensures err { OnErr result (self.new ≡ self.old) }
     {
         self.put(parcel)
@@ -94,7 +104,7 @@ impl<E: Drop> Shard<E> {
         let mut parts = parts.into_vec();
         keep_from(&mut parts, next);
         self.parts.reserve(parts.len())?;
-        cover_more(&mut self.cover, &chunks)?;
+        self.cover.union(&chunks)?;
         self.parts.append(&mut parts)?;
         Ok(())
     }
@@ -103,9 +113,9 @@ impl<E: Drop> Shard<E> {
     pub fn install(&mut self, rows: Rows<E>) -> Result<(), NoMemory>
         requires from { rows.from ≡ published_to self.old }
         requires to { rows.to ≡ published_to self.old + 1 }
-        requires limit { published_to self.old < 65536 }
         ensures published { OnOk result (published_to self.new ≡ published_to self.old + 1) }
-        ensures others { OnOk result ((cover_of self.new ≡ cover_of self.old) × (floor_of self.new ≡ floor_of self.old)) }
+        ensures others { OnOk result ((cover_of self.new ≡ cover_of self.old)
+            × (floor_of self.new ≡ floor_of self.old)) }
         ensures folds { OnOk result (InstallKeeps rows self.old self.new) }
         ensures kept { OnOk result (KeepsOnly rows self.old self.new) }
         ensures err { OnErr result (self.new ≡ self.old) }
@@ -139,10 +149,14 @@ impl<E: Drop> Shard<E> {
     ) -> Result<Answer<E>, AskError>
     where
         F::M: Semigroup<El = E>,
-        requires store { key.now.store < F.stores family.now }
-        requires kept { AreValid (dictionaries F.M.valid F.M.add (F.stores family.now) (F.dictionary family.now)) (kept_by self.now) }
-        ensures sums { IfOk result (λ answer. Answers (F.M.valid (F.dictionary family.now key.now.store)) (shard_sums (λ store. F.M.add (F.dictionary family.now store)) self.now) key.now upto answer) }
-        ensures named { IfOk result (λ answer. MakesNamed (dictionaries F.M.valid F.M.add (F.stores family.now) (F.dictionary family.now)) self.now key.now upto (values_of answer)) }
+        requires store { key.now.store < length (F.monoids family.now) }
+        requires kept { AreValid (meant F.M.valid F.M.add (F.monoids family.now))
+            (kept_by self.now) }
+        ensures sums { IfOk result (Answers (meant F.M.valid F.M.add (F.monoids family.now))
+            self.now key.now upto) }
+        ensures named { IfOk result (λ answer.
+            MakesNamed F.M.valid F.M.add (F.monoids family.now) self.now key.now upto
+            (values_of answer)) }
     {
         let answer = self.answer(alloc, family, key, upto)?;
         Ok(answer)
@@ -150,7 +164,8 @@ impl<E: Drop> Shard<E> {
 
     /// The keys with a sum, each once and in rising order.
     pub fn keys(&self, alloc: Global) -> Result<Vec<KeyBytes>, NoMemory>
-        ensures { IfOk result (λ keys. (add : ℕ → E → E → E) → HasKeys (shard_sums add self.now) keys.items) }
+        ensures { IfOk result (λ keys. (add : ℕ → E → E → E)
+            → HasKeys (shard_sums add self.now) keys.items) }
     {
         let mut keys = BTreeSet::new(alloc);
         put_row_keys(alloc, &mut keys, self.rows())?;
@@ -159,12 +174,12 @@ impl<E: Drop> Shard<E> {
     }
 
     /// The sum of each key that has one, over all batches, in rising order of the keys. Takes n log n steps for n kept
-    /// elements, which are moved.
+    /// values, which are moved.
     pub fn into_rows<F: Family>(self, alloc: Global, family: &F) -> Result<RowList<E>, NoMemory>
     where
         F::M: Semigroup<El = E>,
-        requires kept { AreValid (dictionaries F.M.valid F.M.add (F.stores family.now) (F.dictionary family.now)) (kept_by self) }
-        ensures { IfOk result (λ rows. Drains (dictionaries F.M.valid F.M.add (F.stores family.now) (F.dictionary family.now)) self rows) }
+        requires kept { AreValid (meant F.M.valid F.M.add (F.monoids family.now)) (kept_by self) }
+        ensures { IfOk result (Drains F.M.valid F.M.add (F.monoids family.now) self) }
     {
         let Shard {
             mut parts,
@@ -172,10 +187,11 @@ impl<E: Drop> Shard<E> {
             cover: _,
         } = self;
         keep_from(&mut parts, rows.len() as u64);
-        let mut totals = BTreeMap::new(alloc);
-        add_lists(alloc, family, &mut totals, rows)?;
-        add_parts(alloc, family, &mut totals, parts)?;
-        rows_of(alloc, totals)
+        let mut sums = KeySums::new(alloc);
+        add_lists(alloc, family, &mut sums, rows)?;
+        sums.add_parts(alloc, family, parts)?;
+        let rows = sums.into_rows(alloc)?;
+        Ok(rows)
     }
 
     fn parts(&self) -> &[Part<E>]
@@ -200,9 +216,13 @@ impl<E: Drop> Shard<E> {
     ) -> Result<Answer<E>, NoMemory>
     where
         F::M: Semigroup<El = E>,
-        requires store { key.now.store < F.stores family.now }
-        requires kept { AreValid (dictionaries F.M.valid F.M.add (F.stores family.now) (F.dictionary family.now)) (kept_by self.now) }
-        ensures { IfOk result (λ answer. Answers (F.M.valid (F.dictionary family.now key.now.store)) (shard_sums (λ store. F.M.add (F.dictionary family.now store)) self.now) key.now upto answer) }
+        requires store { key.now.store < length (F.monoids family.now) }
+        requires kept { AreValid (meant F.M.valid F.M.add (F.monoids family.now))
+            (kept_by self.now) }
+        ensures sums { IfOk result (Answers (meant F.M.valid F.M.add (F.monoids family.now))
+            self.now key.now upto) }
+        ensures rising { IfOk result (λ answer. IsTrue (is_sorted nat_cmp answer.published)
+            × IsTrue (is_sorted nat_cmp answer.online)) }
     {
         let published = self.published_sums(alloc, family, key, upto)?;
         let online = self.online_sums(alloc, family, key, upto)?;
@@ -226,9 +246,12 @@ impl<E: Drop> Shard<E> {
     ) -> Result<Sums<E>, NoMemory>
     where
         F::M: Semigroup<El = E>,
-        requires store { key.now.store < F.stores family.now }
-        requires kept { AreValid (dictionaries F.M.valid F.M.add (F.stores family.now) (F.dictionary family.now)) (kept_by self.now) }
-        ensures { IfOk result (λ sums. HasSums (F.M.valid (F.dictionary family.now key.now.store)) upto (published_sum self.now key.now) sums) }
+        requires store { key.now.store < length (F.monoids family.now) }
+        requires kept { AreValid (meant F.M.valid F.M.add (F.monoids family.now))
+            (kept_by self.now) }
+        ensures sums { IfOk result (HasSums ((meant F.M.valid F.M.add (F.monoids family.now)).valid
+            key.now.store) upto (published_sum self.now key.now)) }
+        ensures rising { IfOk result (λ sums. IsTrue (is_sorted nat_cmp sums)) }
     {
         let rows = rows_up_to(self.rows(), upto);
         let sums = gather_rows(alloc, family.monoid(key.store), rows, key)?;
@@ -244,9 +267,13 @@ impl<E: Drop> Shard<E> {
     ) -> Result<Sums<E>, NoMemory>
     where
         F::M: Semigroup<El = E>,
-        requires store { key.now.store < F.stores family.now }
-        requires kept { AreValid (dictionaries F.M.valid F.M.add (F.stores family.now) (F.dictionary family.now)) (kept_by self.now) }
-        ensures { IfOk result (λ sums. HasSums (F.M.valid (F.dictionary family.now key.now.store)) upto (online_sum (λ store. F.M.add (F.dictionary family.now store)) self.now key.now) sums) }
+        requires store { key.now.store < length (F.monoids family.now) }
+        requires kept { AreValid (meant F.M.valid F.M.add (F.monoids family.now))
+            (kept_by self.now) }
+        ensures sums { IfOk result (HasSums ((meant F.M.valid F.M.add (F.monoids family.now)).valid
+            key.now.store) upto (online_sum (meant F.M.valid F.M.add (F.monoids family.now)).add
+            self.now key.now)) }
+        ensures rising { IfOk result (λ sums. IsTrue (is_sorted nat_cmp sums)) }
     {
         let published = self.published();
         let sums = gather(
@@ -258,17 +285,6 @@ impl<E: Drop> Shard<E> {
             upto,
         )?;
         Ok(Sums::from_vec(sums))
-    }
-}
-
-// Puts the chunks into the cover. One chunk takes constant time where it comes after all others.
-fn cover_more(cover: &mut Ranges, chunks: &Ranges) -> Result<(), NoMemory>
-    ensures ok { OnOk result (cover.new ≡ union cover.old chunks.now) }
-    ensures err { OnErr result (cover.new ≡ cover.old) }
-{
-    match chunks.as_slice() {
-        [chunk] => cover.insert(*chunk),
-        _ => cover.union(chunks),
     }
 }
 

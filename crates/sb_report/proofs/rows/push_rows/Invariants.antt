@@ -1,6 +1,6 @@
 use Rattle.std.proofs.Common.{◌≡◌, ◌++◌, drop, take, length}
 use Rattle.std.specs.List.{flat_map}
-use Rattle.sb_feed.specs.Jobs.{AreValid, dictionaries}
+use Rattle.sb_feed.specs.Jobs.{AreValid, meant}
 use Rattle.sb_report.specs.Report.{printed_row}
 use Rattle.sb_report.proofs.rows.push_rows.Given as goal
 
@@ -9,5 +9,5 @@ invariant-loop-row g l = record {
   written : l.out.items ++ flat_map (printed_row (g.F.Printed.name l.family) (g.F.Printed.printed l.family)) (drop l.row-index l.rows)
       ≡ l.fn.out.items ++ flat_map (printed_row (g.F.Printed.name l.family) (g.F.Printed.printed l.family)) l.rows;
   front : take (length l.fn.out.items) l.out.items ≡ l.fn.out.items;
-  valid : AreValid (dictionaries g.F.M.Semigroup.valid g.F.M.Semigroup.add (g.F.Family.stores l.family) (g.F.Family.dictionary l.family)) (drop l.row-index l.rows);
+  valid : AreValid (meant g.F.M.Semigroup.valid g.F.M.Semigroup.add (g.F.Family.monoids l.family)) (drop l.row-index l.rows);
 }

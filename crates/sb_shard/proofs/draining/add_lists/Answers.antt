@@ -1,50 +1,27 @@
-use Rattle.std.proofs.Common.{◌≡◌, ◌∙◌, ◌+◌, ◌<◌, ◌++◌, suc, ap, sym, subst, arith}
-use Rattle.std.specs.Prelude.{IfSome}
-use Rattle.std.specs.BTreeMap.{get}
-use Rattle.std.specs.FinMap.{find}
+use Rattle.std.proofs.Common.{◌++◌, ◌∷◌, [], ap, sym, subst, ◌∙◌, append_assoc, append-nil}
 use Rattle.std.specs.List.{flat_map}
-use Rattle.std.specs.Vec.Iter.{into_iter_items}
-use Rattle.sb_laws.proofs.Sums.{valid_left, valid_right}
-use Rattle.sb_feed.specs.declared.key.KeyBytes.{KeyBytes}
-use Rattle.sb_feed.specs.Keys.{key_order}
-use Rattle.sb_feed.specs.Jobs.{AreValid, dictionaries}
-use Rattle.sb_shard.specs.Gathering.{onto, rows_from}
-use Rattle.sb_shard.specs.Draining.{sum_with, sum_in, values, with_row}
-use Rattle.sb_shard.proofs.Totals.{sum_onto_list, row_before}
+use Rattle.std.proofs.lemmas.Grind.{flat_map-append}
+use Rattle.sb_laws.proofs.Sums.{valid_append, valid_left, valid_right}
+use Rattle.sb_feed.specs.Jobs.{AreValid, meant}
+use Rattle.sb_job.specs.Sums.{HasKeySums}
 use Rattle.sb_shard.proofs.draining.add_lists.Goals as goal
 
 pub add_rows-requires-clause-rows : goal.add_rows-requires-clause-rows
 add_rows-requires-clause-rows g c =
-    let family = c.args.family.now in
-    let d = dictionaries g.F.M.Semigroup.valid g.F.M.Semigroup.add (g.F.Family.stores family) (g.F.Family.dictionary family) in
-    let later = flat_map (λ rows. rows) (into_iter_items c.next.new.self) in
-    let pieces : AreValid d (c.in-Some.rows ++ later) = rw c.in-Some.ensures.steps.0 at c.loop-rows.invariant.rest in
-    rw c.into_vec.ensures (valid_left _ c.in-Some.rows later pieces)
+    let d = meant g.F.M.Semigroup.valid g.F.M.Semigroup.add (g.F.Family.monoids c.args.family.now) in
+    valid_left _ c.in-Some.rows _ (subst (λ lists. AreValid d (flat_map (λ rows. rows) lists)) c.in-Some.ensures.steps.0 c.loop-rows.invariant.later)
 
 pub loop-rows-preserved : goal.loop-rows-preserved
 loop-rows-preserved g c =
-    let family = c.args.family.now in
-    let d = dictionaries g.F.M.Semigroup.valid g.F.M.Semigroup.add (g.F.Family.stores family) (g.F.Family.dictionary family) in
-    let i = c.loop-rows.invariant in
+    let d = meant g.F.M.Semigroup.valid g.F.M.Semigroup.add (g.F.Family.monoids c.args.family.now) in
     let rows = c.in-Some.rows in
-    let rest = into_iter_items c.next.new.self in
-    let number = c.loop-rows.number in
-    let before = get key_order c.loop-rows.totals in
-    let after = get key_order c.add_rows.new.totals in
-    let later = flat_map (λ rows. rows) rest in
-    let pieces : AreValid d (rows ++ later) = rw c.in-Some.ensures.steps.0 at i.rest in
-    let next : number + 1 ≡ suc number = omega arith in
-    let is : (q : KeyBytes) → after q ≡ with_row (d.add q.store) (number + 1) (find key_order q rows) (before q) =
-    λ q. c.in_ok-add_rows.ensures.rows q ∙ ap (λ l. with_row (d.add q.store) (number + 1) (find key_order q l) (before q)) c.into_vec.ensures in
-    let left = rw c.in-Some.ensures.steps.0 at i.left in
+    let before = c.loop-rows.yielded in
     record {
-      sums = λ q.
-          ap (λ o. sum_with (d.add q.store) (sum_in o) (values (rows_from q (number + 1) rest))) (is q)
-          ∙ (sum_onto_list (d.add q.store) (number + 1) number (find key_order q rows) (before q) (rows_from q (number + 1) rest)
-          ∙ (ap (λ n. sum_with (d.add q.store) (sum_in (before q)) (values (onto number (find key_order q rows) (rows_from q n rest)))) next
-          ∙ (ap (λ lists. sum_with (d.add q.store) (sum_in (before q)) (values (rows_from q number lists))) (sym c.in-Some.ensures.steps.0) ∙ i.sums q)));
-      totals = c.in_ok-add_rows.ensures.totals;
-      before = λ q. subst (λ o. IfSome o (λ t. t.last < number + 1 + 1)) (sym (is q)) (row_before (d.add q.store) (number + 1) (find key_order q rows) (before q) (i.before q));
-      rest = valid_right _ rows later pieces;
-      left = omega (arith, left);
+      valid = c.add_rows.ensures.valid;
+      later = valid_right _ rows _ (subst (λ lists. AreValid d (flat_map (λ rows. rows) lists)) c.in-Some.ensures.steps.0 c.loop-rows.invariant.later);
+      sums = λ values has.
+          subst (λ l. HasKeySums d l c.add_rows.new.self)
+          (append_assoc values (flat_map (λ rows. rows) before) rows ∙ ap (λ l. values ++ l) (sym (flat_map-append (λ rows. rows) before (rows ∷ []) ∙ ap (λ l. flat_map (λ rows. rows) before ++ l) (append-nil rows))))
+          (c.in_ok-add_rows.ensures.sums (values ++ flat_map (λ rows. rows) before) (c.loop-rows.invariant.sums values has));
+      rising = valid_append _ before (rows ∷ []) c.loop-rows.invariant.rising (c.in_ok-add_rows.ensures.rising, tt);
     }

@@ -1,12 +1,12 @@
 use Rattle.std.proofs.Common.{◌≡◌, ◌≤◌}
 use Rattle.std.specs.Prelude.{max}
-use Rattle.sb_feed.specs.Jobs.{dictionaries}
+use Rattle.sb_feed.specs.Jobs.{meant}
 use Rattle.sb_session.specs.Sessions.{IsOver, published_by}
 use Rattle.sb_session.proofs.session.Session.publish.Given as goal
 
 abbrev pub invariant-loop-batch : goal.invariant-loop-batch
 invariant-loop-batch g l = record {
-  over : IsOver (dictionaries g.F.M.Semigroup.valid g.F.M.Semigroup.add (g.F.Family.stores l.fn.feed) (g.F.Family.dictionary l.fn.feed)) (g.F.Feed.records l.fn.feed) l.self;
+  over : IsOver g.F.M.Semigroup.valid g.F.M.Semigroup.add (g.F.Family.monoids l.fn.feed) (g.F.Feed.records l.fn.feed) l.self;
   next : l.batch ≡ published_by l.self;
   within : l.batch ≤ max (published_by l.fn.self) l.end;
   cut : l.self.cut ≡ l.fn.self.cut;

@@ -1,0 +1,176 @@
+//! The sum of each key: hashed while it grows, and sorted once at the end.
+ghost use Rattle.std.specs.Prelude.{◌≡◌, ◌<◌, [], ◌∷◌, ◌++◌, List, length, slice_get, IsTrue, IfOk, OnOk, OnErr};
+ghost use Rattle.std.specs.FinMap.{find, is_sorted};
+ghost use Rattle.std.specs.List.{IsDistinct};
+ghost use Rattle.std.specs.List.Sorted.{IsPermutation, IsSortedByKey};
+ghost use Rattle.std.specs.Map.{keys_of};
+ghost use Rattle.sb_feed.specs.declared.key.KeyBytes.{KeyBytes as Key};
+ghost use Rattle.sb_feed.specs.Keys.{key_order, same_key};
+ghost use Rattle.sb_feed.specs.Jobs.{AreValid, meant, valid_by};
+ghost use Rattle.sb_feed.specs.Stands.{keyed_values};
+ghost use Rattle.sb_job.specs.Sums.{AreKeySums, HasKeySums};
+
+use sb_feed::{Family, KeyBytes, Part, RowList};
+use sb_laws::{NoMemory, Semigroup};
+use std::alloc::Global;
+use std::collections::HashMap;
+use std::collections::hash_map::Entry;
+use std::marker::Model;
+
+/// The sum of each key that has a value, as it grows. Contracts see the keys with their sums, in no order.
+#[derive(Drop)]
+pub struct KeySums<E> {
+    sums: HashMap<KeyBytes, E>,
+}
+
+impl<E> Model for KeySums<E> {
+    ghost use Rattle.std.specs.Prelude.{List};
+    ghost use Rattle.sb_feed.specs.declared.key.KeyBytes.{KeyBytes as Key};
+
+    ghost Value = { List (Key × E) };
+
+    ghost view = { λ s. s.sums.entries };
+}
+
+impl<E> KeySums<E> {
+    /// No sums. No memory is taken.
+    pub fn new(alloc: Global) -> KeySums<E>
+        ensures { result ≡ [] }
+    {
+        KeySums {
+            sums: HashMap::new(alloc),
+        }
+    }
+
+    /// Adds a value on the right of its key's sum, in place and with one look-up. A refusal leaves the sums as they were.
+    pub fn add<F: Family>(
+        &mut self,
+        alloc: Global,
+        family: &F,
+        key: KeyBytes,
+        value: E,
+    ) -> Result<(), NoMemory>
+    where
+        F::M: Semigroup<El = E>,
+        requires store { key.store < length (F.monoids family.now) }
+        requires value { valid_by F.M.valid (slice_get (F.monoids family.now) key.store) value }
+        requires sums { AreValid (meant F.M.valid F.M.add (F.monoids family.now)) self.old }
+        ensures valid { AreValid (meant F.M.valid F.M.add (F.monoids family.now)) self.new }
+        ensures sums { OnOk result ((values : List (Key × E))
+            → HasKeySums (meant F.M.valid F.M.add (F.monoids family.now)) values self.old
+            → HasKeySums (meant F.M.valid F.M.add (F.monoids family.now))
+            (values ++ (key, value) ∷ []) self.new) }
+        ensures err { OnErr result (self.new ≡ self.old) }
+    {
+        let store = key.store;
+        match self.sums.entry(key)? {
+            Entry::Occupied(sum) => family.monoid(store).plus(alloc, sum.into_mut(), value),
+            Entry::Vacant(place) => {
+                place.insert(value);
+                Ok(())
+            }
+        }
+    }
+
+    /// Adds the values of rows, one after the other. After a refusal those before the refused one are added.
+    pub fn add_rows<F: Family>(
+        &mut self,
+        alloc: Global,
+        family: &F,
+        rows: RowList<E>,
+    ) -> Result<(), NoMemory>
+    where
+        E: Drop,
+        F::M: Semigroup<El = E>,
+        requires rows { AreValid (meant F.M.valid F.M.add (F.monoids family.now)) rows }
+        requires sums { AreValid (meant F.M.valid F.M.add (F.monoids family.now)) self.old }
+        ensures valid { AreValid (meant F.M.valid F.M.add (F.monoids family.now)) self.new }
+        ensures sums { OnOk result ((values : List (Key × E))
+            → HasKeySums (meant F.M.valid F.M.add (F.monoids family.now)) values self.old
+            → HasKeySums (meant F.M.valid F.M.add (F.monoids family.now)) (values ++ rows)
+            self.new) }
+        ensures rising { OnOk result (IsTrue (is_sorted key_order rows)) }
+    {
+        for (key, value) in rows.into_vec() {
+            self.add(alloc, family, key, value)?;
+        }
+        Ok(())
+    }
+
+    /// Adds the values of parts, one after the other. After a refusal those before the refused one are added.
+    pub fn add_parts<F: Family>(
+        &mut self,
+        alloc: Global,
+        family: &F,
+        parts: Vec<Part<E>>,
+    ) -> Result<(), NoMemory>
+    where
+        E: Drop,
+        F::M: Semigroup<El = E>,
+        requires parts { AreValid (meant F.M.valid F.M.add (F.monoids family.now))
+            (keyed_values parts.items) }
+        requires sums { AreValid (meant F.M.valid F.M.add (F.monoids family.now)) self.old }
+        ensures valid { AreValid (meant F.M.valid F.M.add (F.monoids family.now)) self.new }
+        ensures sums { OnOk result ((values : List (Key × E))
+            → HasKeySums (meant F.M.valid F.M.add (F.monoids family.now)) values self.old
+            → HasKeySums (meant F.M.valid F.M.add (F.monoids family.now))
+            (values ++ keyed_values parts.items) self.new) }
+    {
+        for part in parts {
+            let Part { key, value, .. } = part;
+            self.add(alloc, family, key, value)?;
+        }
+        Ok(())
+    }
+
+    /// The keys with their sums, in rising order of the keys. Takes n log n steps for n keys.
+    pub fn into_rows(self, alloc: Global) -> Result<RowList<E>, NoMemory>
+    where
+        E: Drop,
+        ensures same { IfOk result (λ rows. IsPermutation self rows) }
+        ensures found { IfOk result (λ rows. (q : Key)
+            → find key_order q rows ≡ find key_order q self) }
+    {
+        let mut rows = entries_of(alloc, self.sums)?;
+        sort_rows(&mut rows);
+        Ok(RowList::from_vec(rows))
+    }
+}
+
+fn entries_of<E: Drop>(
+    alloc: Global,
+    sums: HashMap<KeyBytes, E>,
+) -> Result<Vec<(KeyBytes, E)>, NoMemory>
+    ensures entries { IfOk result (λ rows. rows.items ≡ sums.entries) }
+    ensures apart { IfOk result (λ _. IsDistinct same_key (keys_of sums.entries)) }
+{
+    let mut rows = Vec::with_capacity(alloc, sums.len())?;
+    for row in sums {
+        rows.push(row)?;
+    }
+    Ok(rows)
+}
+
+fn sort_rows<E>(rows: &mut Vec<(KeyBytes, E)>)
+    ensures same { IsPermutation rows.old.items rows.new.items }
+    ensures sorted { IsSortedByKey (λ row. row.0) key_order rows.new.items }
+{
+    rows.sort_unstable_by(|a, b| a.0.cmp(&b.0));
+}
+
+/// The sum of each key's parts from left to right.
+pub fn sum_parts<F: Family>(
+    alloc: Global,
+    family: &F,
+    parts: Vec<Part<<F::M as Semigroup>::El>>,
+) -> Result<RowList<<F::M as Semigroup>::El>, NoMemory>
+    requires { AreValid (meant F.M.valid F.M.add (F.monoids family.now))
+        (keyed_values parts.items) }
+    ensures { IfOk result (AreKeySums (meant F.M.valid F.M.add (F.monoids family.now))
+        (keyed_values parts.items)) }
+{
+    let mut sums = KeySums::new(alloc);
+    sums.add_parts(alloc, family, parts)?;
+    let rows = sums.into_rows(alloc)?;
+    Ok(rows)
+}
