@@ -1,31 +1,32 @@
--- A feed's records, its emissions and its rows.
-use Rattle.std.proofs.Common.{◌≡◌, ℕ, zero, suc, ◌<◌, ℤ, Bool, true, false, cond, ◌&&◌, List, [], ◌∷◌, ◌++◌, map, filter, length, refl, sym, ap, subst, ◌∙◌, arith}
-use Rattle.std.specs.Prelude.{◌==◌, slice_index, get_or}
-use Rattle.std.proofs.lemmas.Bool.{eqb-true, eqb-false}
+-- A feed's records are those of its program's run, and its folds are those of their emissions.
+use Rattle.std.proofs.Common.{◌≡◌, ℕ, zero, suc, ◌<◌, ℤ, Bool, true, false, cond, List, [], ◌∷◌, ◌++◌, map, filter, length, refl, sym, ap, subst, ◌∙◌, arith}
+use Rattle.std.specs.Prelude.{slice_index, get_or}
+use Rattle.std.specs.Fmt.{signed_decimal}
 use Rattle.std.specs.List.{AllByRecursion}
+use Rattle.std.specs.Ordering.{is_eq}
 use Rattle.std.specs.Str.{bytes_eq}
 use Rattle.sb_laws.specs.Folds.{fold_over}
-use Rattle.sb_feed.specs.Feeds.{parts_at}
-use Rattle.sb_feed.specs.Jobs.{Record, Job, IsRecord, of_key_from}
-use Rattle.sb_feed.specs.declared.key.KeyBytes.{KeyBytes}
 use Rattle.sb_laws.proofs.Positions.{ap_both}
-use Rattle.sb_feed.specs.Jobs as jobs
-use Rattle.sb_feed.specs.Keys.{same_key}
-use Rattle.sb_run.specs.Feed.{EntryValue, FeedValue, IsEntry, IsAt, entry_view, sums, entry_record, feed_records, entry_of, emissions_from, feed_run}
+use Rattle.sb_feed.specs.Cuts.{CutValue}
+use Rattle.sb_feed.specs.Feeds.{parts_at}
+use Rattle.sb_feed.specs.Jobs.{IsRecord, values_from, job_fold}
+use Rattle.sb_feed.specs.declared.key.KeyBytes.{KeyBytes}
+use Rattle.sb_session.specs.Sessions.{job_by}
+use Rattle.sb_run.specs.Feed.{EntryValue, FeedValue, IsEntry, IsAt, entry_view, sums, sum_add, feed_monoids, entry_record, feed_records, entry_of, emissions_from, feed_run}
 use Rattle.sb_run.specs.Fold.{Emission, of_key, fold_of}
-use Rattle.sb_run.specs.Gathering.{HavePlaces}
 use Rattle.sb_run.specs.Log.{LogRecord}
 use Rattle.sb_run.specs.Program.{Program, plus, schema_of, emission_of}
-use Rattle.sb_run.specs.Run.{job_record, run_of}
-use Rattle.sb_run.specs.Schema.{batch_of}
+use Rattle.sb_run.specs.Run.{run_of}
+use Rattle.sb_run.specs.Schema.{batch_of_time}
+use Rattle.sb_run.specs.Steps.{HavePlaces}
 use Rattle.sb_run.specs.Views.{record_view}
 use Rattle.sb_run.specs.declared.log.LogRecord as rust
 use Rattle.sb_run.specs.declared.feed.Entry.{Entry}
-use Rattle.sb_run.proofs.KeySums.{same_bytes, by_bytes, map-last}
+use Rattle.sb_run.proofs.Keys.{by_bytes, ties}
 
-pub records_valid : (entries : List EntryValue) → AllByRecursion IsEntry entries → AllByRecursion (IsRecord sums) (map entry_record entries)
-records_valid [] h = tt
-records_valid (entry ∷ entries) h = (record { batch = h.0.0; rising = refl; valid = ((omega arith, h.0.1), tt) }, records_valid entries h.1)
+pub records_valid : (feed : FeedValue) (entries : List EntryValue) → AllByRecursion IsEntry entries → AllByRecursion (IsRecord (sums feed)) (map entry_record entries)
+records_valid feed [] h = tt
+records_valid feed (entry ∷ entries) h = (record { batch = h.0.0; rising = refl; valid = ((omega arith, h.0.1), tt) }, records_valid feed entries h.1)
 
 pub at_index : (entries : List Entry) (i : ℕ) (entry d : Entry) → i < length (map entry_view entries) → get_or entries i d ≡ entry → IsAt (map entry_view entries) i (entry_view entry)
 at_index [] i entry d less e = absurd (omega (arith, less))
@@ -48,9 +49,21 @@ parts_of_entry [] i entry at = absurd at
 parts_of_entry (e ∷ entries) zero entry at = ap (λ x. record { key = record { store = 0; text = x.key }; batch = x.batch; value = x.value } ∷ []) at
 parts_of_entry (e ∷ entries) (suc i) entry at = parts_of_entry entries i entry at
 
-pub one_of : {A B : Type 0} (P : B → Type 0) (f : A → B) (before rest : List A) (one : A) (all : List A) → before ++ (one ∷ rest) ≡ all → AllByRecursion P (map f all) → P (f one)
-one_of P f [] rest one all e h = (subst (λ l. AllByRecursion P (map f l)) (sym e) h).0
-one_of P f (first ∷ before) rest one all e h = one_of P f before rest one (before ++ (one ∷ rest)) refl (subst (λ l. AllByRecursion P (map f l)) (sym e) h).1
+-- one of many, which the others surround
+pub one_of : {A : Type 0} (P : A → Type 0) (before rest : List A) (one : A) (all : List A) → before ++ (one ∷ rest) ≡ all → AllByRecursion P all → P one
+one_of P [] rest one all e h = (subst (AllByRecursion P) (sym e) h).0
+one_of P (first ∷ before) rest one all e h = one_of P before rest one (before ++ (one ∷ rest)) refl (subst (AllByRecursion P) (sym e) h).1
+
+all_of_map : {A B : Type 0} (P : B → Type 0) (f : A → B) (xs : List A) → AllByRecursion P (map f xs) → AllByRecursion (λ x. P (f x)) xs
+all_of_map P f [] h = tt
+all_of_map P f (x ∷ xs) h = (h.0, all_of_map P f xs h.1)
+
+pub one_of_map : {A B : Type 0} (P : B → Type 0) (f : A → B) (before rest : List A) (one : A) (all : List A) → before ++ (one ∷ rest) ≡ all → AllByRecursion P (map f all) → P (f one)
+one_of_map P f before rest one all e h = one_of (λ x. P (f x)) before rest one all e (all_of_map P f all h)
+
+pub map-last : {A B : Type 0} (f : A → B) (xs : List A) (x : A) → map f (xs ++ x ∷ []) ≡ map f xs ++ f x ∷ []
+map-last f [] x = refl
+map-last f (y ∷ xs) x = ap (λ ys. f y ∷ ys) (map-last f xs x)
 
 pub valid_last : (entries : List EntryValue) (entry : EntryValue) → AllByRecursion IsEntry entries → IsEntry entry → AllByRecursion IsEntry (entries ++ entry ∷ [])
 valid_last [] entry h one = (one, tt)
@@ -71,54 +84,33 @@ emissions_placed program i [] h = refl
 emissions_placed program i (r ∷ records) h =
     ap_both ◌∷◌ (ap (λ n. record { position = n; key = (emission_of program r).key; value = (emission_of program r).value }) (sym h.0)) (emissions_placed program (suc i) records h.1)
 
-records_same : (program : Program) (records : List LogRecord) → map entry_record (map (entry_of program) records) ≡ map (λ r. job_record (batch_of (schema_of program) r.time) (emission_of program r)) records
-records_same program [] = refl
-records_same program (r ∷ records) = ap (λ l. entry_record (entry_of program r) ∷ l) (records_same program records)
+batches_same : (program : Program) (records : List LogRecord) → map (λ r. r.batch) (map entry_record (map (entry_of program) records)) ≡ map (λ r. batch_of_time (schema_of program) r.time) records
+batches_same program [] = refl
+batches_same program (r ∷ records) = ap (λ l. batch_of_time (schema_of program) r.time ∷ l) (batches_same program records)
 
 pub feed_is_run : (program : Program) (feed : FeedValue) (records : List LogRecord) (chunk : ℕ) → feed.name ≡ program.store → feed.entries ≡ map (entry_of program) records → HavePlaces 0 records
     → feed_run feed chunk ≡ run_of program chunk records
 feed_is_run program feed records chunk name entries places i = record {
-  store = name i;
-  emissions = (ap (emissions_from 0) entries ∙ emissions_placed program 0 records places) i;
-  job = record { records = (ap (map entry_record) entries ∙ records_same program records) i; chunk = chunk; shards = 1; lag = 0 };
+  stores = record { name = name i; add = plus; text = signed_decimal; emissions = (ap (emissions_from 0) entries ∙ emissions_placed program 0 records places) i } ∷ [];
+  places = record { batches = (ap (λ es. map (λ r. r.batch) (map entry_record es)) entries ∙ batches_same program records) i; chunk = chunk; shards = 1 };
 }
 
-same_cases : (a b : ℕ) (s t : Bool) → (a == b) ≡ s → (b == a) ≡ t → s ≡ t
-same_cases a b true true e f = refl
-same_cases a b true false e f = absurd (omega (arith, eqb-true, eqb-false))
-same_cases a b false true e f = absurd (omega (arith, eqb-true, eqb-false))
-same_cases a b false false e f = refl
-
-pub turned : (xs ys : List ℕ) → bytes_eq xs ys ≡ bytes_eq ys xs
-turned [] [] = refl
-turned [] (y ∷ ys) = refl
-turned (x ∷ xs) [] = refl
-turned (x ∷ xs) (y ∷ ys) = ap_both ◌&&◌ (same_cases x y _ _ refl refl) (turned xs ys)
-
--- the key of the one store ties where its text does
-same_text : (key text : List ℕ) → same_key (record { store = 0; text = key }) (record { store = 0; text = text }) ≡ bytes_eq text key
-same_text key text = same_bytes key text (by_bytes key text) refl ∙ turned key text
-
--- the values of a key in the job are those of its emissions
-values_same : (key : List ℕ) (i : ℕ) (entries : List EntryValue) → of_key_from (record { store = 0; text = key }) i (map entry_record entries) ≡ of_key key (emissions_from i entries)
+-- the values of a key in the log are those of its emissions
+values_same : (key : List ℕ) (i : ℕ) (entries : List EntryValue) → values_from (record { store = 0; text = key }) i (map entry_record entries) ≡ of_key key (emissions_from i entries)
 values_same key i [] = refl
-values_same key i (entry ∷ entries) = one (bytes_eq entry.key key) (same_text key entry.key) (values_same key (suc i) entries)
+values_same key i (entry ∷ entries) = onto (is_eq (by_bytes key entry.key)) (bytes_eq entry.key key) (ties key entry.key) (values_same key (suc i) entries)
   where
-    k : KeyBytes
-    k = record { store = 0; text = key }
-
-    rest : List (ℕ × ℤ)
-    rest = of_key_from k (suc i) (map entry_record entries)
-
-    one : (b : Bool) → same_key k (record { store = 0; text = entry.key }) ≡ b → rest ≡ of_key key (emissions_from (suc i) entries)
-        → map {B = ℕ × ℤ} (λ v. (i, v)) (map (λ (x : KeyBytes × ℤ). x.1) (cond (same_key k (record { store = 0; text = entry.key })) ((record { store = 0; text = entry.key }, entry.value) ∷ []) [])) ++ rest
-        ≡ map (λ (e : Emission ℤ). (e.position, e.value)) (cond b (record { position = i; key = entry.key; value = entry.value } ∷ filter (λ e. bytes_eq e.key key) (emissions_from (suc i) entries)) (filter (λ e. bytes_eq e.key key) (emissions_from (suc i) entries)))
-    one true e h = ap (λ b. map {B = ℕ × ℤ} (λ v. (i, v)) (map (λ (x : KeyBytes × ℤ). x.1) (cond b ((record { store = 0; text = entry.key }, entry.value) ∷ []) [])) ++ rest) e ∙ ap (λ l. (i, entry.value) ∷ l) h
-    one false e h = ap (λ b. map {B = ℕ × ℤ} (λ v. (i, v)) (map (λ (x : KeyBytes × ℤ). x.1) (cond b ((record { store = 0; text = entry.key }, entry.value) ∷ []) [])) ++ rest) e ∙ h
+    onto : (b c : Bool) → b ≡ c → values_from (record { store = 0; text = key }) (suc i) (map entry_record entries) ≡ of_key key (emissions_from (suc i) entries)
+        → map {B = ℕ × ℤ} (λ v. (i, v)) (map (λ (part : KeyBytes × ℤ). part.1) (cond b ((record { store = 0; text = entry.key }, entry.value) ∷ []) []))
+        ++ values_from (record { store = 0; text = key }) (suc i) (map entry_record entries)
+        ≡ map (λ (e : Emission ℤ). (e.position, e.value)) (cond c (record { position = i; key = entry.key; value = entry.value } ∷ filter (λ e. bytes_eq e.key key) (emissions_from (suc i) entries))
+        (filter (λ e. bytes_eq e.key key) (emissions_from (suc i) entries)))
+    onto true true e h = ap (λ l. (i, entry.value) ∷ l) h
+    onto true false e h = let no : true ≡ false = e in cc
+    onto false true e h = let no : false ≡ true = e in cc
+    onto false false e h = h
 
 -- the fold of a key over the job is that over the emissions
-pub fold_same_run : (feed : FeedValue) (job : Job ℤ) (key : List ℕ) (s : ℕ → Bool) → job.records ≡ feed_records feed
-    → jobs.fold_of sums.add job (record { store = 0; text = key }) s ≡ fold_of plus (emissions_from 0 feed.entries) key s
-fold_same_run feed job key s is =
-    ap (λ records. fold_over plus (of_key_from (record { store = 0; text = key }) 0 records) s) is
-    ∙ ap (λ values. fold_over plus values s) (values_same key 0 feed.entries)
+pub fold_same_run : (feed : FeedValue) (cut : CutValue) (key : List ℕ) (passes : ℕ → Bool)
+    → job_fold sum_add (job_by (feed_monoids feed) (feed_records feed) cut) (record { store = 0; text = key }) passes ≡ fold_of plus (emissions_from 0 feed.entries) key passes
+fold_same_run feed cut key passes = ap (λ values. fold_over plus values passes) (values_same key 0 feed.entries)

@@ -5,6 +5,7 @@ use Rattle.std.specs.List.{range_with_len}
 use Rattle.std.proofs.lemmas.Bool.{ltb-true, ltb-false}
 use Rattle.std.proofs.lemmas.List.FromFn.{length-range_with_len}
 use Rattle.sb_feed.specs.Cuts.{CutValue, IsCut, chunk_count}
+use Rattle.sb_feed.specs.Limits.{most_chunks, most_records_of_a_chunk}
 use Rattle.sb_report.specs.declared.line.TranscriptLine.TheVariants.{Read, Worked}
 
 pub same_read : (store : ℕ) (key : List ℕ) (floor : ℕ) (v w : List ℕ) (p q : ℕ) (c d : List ℕ) → v ≡ w → p ≡ q → c ≡ d → Read store key v p floor c ≡ Read store key w q floor d
@@ -17,9 +18,9 @@ same_work w n m count chunks same are is =
     λ i. Worked (number i) (all i)
 
 -- a log for which no cut is made has too many chunks
-pub no_cut : (cut : CutValue) → (1 ≤ cut.chunk) × (cut.chunk ≤ 1048576) → cut.shards ≡ 1 → (IsCut cut → ⊥) → 65536 < chunk_count cut
-no_cut cut chunk one none = either (nat_lt 65536 (chunk_count cut)) refl
+pub no_cut : (cut : CutValue) → (1 ≤ cut.chunk) × (cut.chunk ≤ most_records_of_a_chunk) → cut.shards ≡ 1 → (IsCut cut → ⊥) → most_chunks < chunk_count cut
+no_cut cut chunk one none = either (nat_lt most_chunks (chunk_count cut)) refl
   where
-    either : (b : Bool) → nat_lt 65536 (chunk_count cut) ≡ b → 65536 < chunk_count cut
+    either : (b : Bool) → nat_lt most_chunks (chunk_count cut) ≡ b → most_chunks < chunk_count cut
     either true e = ltb-true _ _ e
     either false e = absurd (none (record { chunk = chunk; shards = (omega (arith, one), omega (arith, one)); chunks = ltb-false _ _ e }))

@@ -7,10 +7,12 @@ use Rattle.std.proofs.lemmas.Bool.{ltb-false}
 use Rattle.sb_text.specs.Columns.{columns_of}
 use Rattle.sb_text.specs.Decimal.{integer}
 use Rattle.sb_text.specs.Lines.{Line, lines_from, onto_first}
+use Rattle.sb_feed.specs.Limits.{last_batch}
 use Rattle.sb_run.specs.Feed.{IsTimed}
-use Rattle.sb_run.specs.Gathering.{HavePlaces}
+use Rattle.sb_run.specs.Limits.{most_line_bytes, most_records}
+use Rattle.sb_run.specs.Steps.{HavePlaces}
 use Rattle.sb_run.specs.Log.{LogRecord, LogFault, too_many, with_fields, after_time, after_source, source_from, record_in, record_of, fields_of, onto_records, records_of, within_limit, log_of}
-use Rattle.sb_run.specs.Schema.{Schema, Source, batch_of}
+use Rattle.sb_run.specs.Schema.{Schema, Source, batch_of_time}
 use Rattle.sb_run.specs.Value.{Value}
 use Rattle.sb_run.specs.declared.log.LineKind.{LineKind}
 use Rattle.sb_run.specs.declared.log.LineKind.TheVariants.{TooLong, NoEnd, Early, FarBatch}
@@ -18,7 +20,7 @@ use Rattle.sb_run.specs.declared.log.LineKind.TheVariants.{TooLong, NoEnd, Early
 abbrev IsGood : Schema → ℕ → LogRecord → Type 0
 IsGood schema position r = (r.position ≡ position) × IsTimed schema r
 
-fields_good : (schema : Schema) (position source : ℕ) (time : ℤ) (fields : Result (List Value) LineKind) → schema.from ≤ℤ time → batch_of schema time ≤ 65535 → IfOk (with_fields position source time fields) (IsGood schema position)
+fields_good : (schema : Schema) (position source : ℕ) (time : ℤ) (fields : Result (List Value) LineKind) → schema.from ≤ℤ time → batch_of_time schema time ≤ last_batch → IfOk (with_fields position source time fields) (IsGood schema position)
 fields_good schema position source time (Err kind) early far = tt
 fields_good schema position source time (Ok fields) early far = (refl, record { early = early; far = far })
 
@@ -27,9 +29,9 @@ not_less a b e = grind (arith, common_steps, e)
 
 time_good : (schema : Schema) (position : ℕ) (source : ℕ × Source) (columns : List (List ℕ)) (time : Option ℤ) → IfOk (after_time schema position source columns time) (IsGood schema position)
 time_good schema position source columns None = tt
-time_good schema position source columns (Some time) = either (int_lt time schema.from) (nat_lt 65535 (batch_of schema time)) refl refl
+time_good schema position source columns (Some time) = either (int_lt time schema.from) (nat_lt last_batch (batch_of_time schema time)) refl refl
   where
-    either : (s t : Bool) → int_lt time schema.from ≡ s → nat_lt 65535 (batch_of schema time) ≡ t
+    either : (s t : Bool) → int_lt time schema.from ≡ s → nat_lt last_batch (batch_of_time schema time) ≡ t
         → IfOk (cond s (Err Early) (cond t (Err FarBatch) (with_fields position source.0 time (fields_of source.1.fields columns)))) (IsGood schema position)
     either true t e f = tt
     either false true e f = tt
@@ -45,7 +47,7 @@ columns_good schema position [] = tt
 columns_good schema position (name ∷ columns) = source_good schema position columns (source_from 0 schema.sources name)
 
 line_good : (schema : Schema) (line : Line) → IfOk (record_of schema line) (IsGood schema (line.number - 1))
-line_good schema line = either (nat_lt 16384 (length line.bytes)) line.ended
+line_good schema line = either (nat_lt most_line_bytes (length line.bytes)) line.ended
   where
     either : (s t : Bool) → IfOk (cond s (Err TooLong) (cond t (record_in schema (line.number - 1) (columns_of line.bytes)) (Err NoEnd))) (IsGood schema (line.number - 1))
     either true t = tt
@@ -84,7 +86,7 @@ records_good schema n i (line ∷ lines) e h =
 
 limit_good : (schema : Schema) (said : Result (List LogRecord) LogFault) → IfOk said (AreGood schema 0) → IfOk (within_limit said) (AreGood schema 0)
 limit_good schema (Err fault) h = tt
-limit_good schema (Ok records) h = elim (nat_lt 1048576 (length records)) as (λ b. IfOk (cond b (Err too_many) (Ok records)) (AreGood schema 0)) [ true ↦ tt | false ↦ h ]
+limit_good schema (Ok records) h = elim (nat_lt most_records (length records)) as (λ b. IfOk (cond b (Err too_many) (Ok records)) (AreGood schema 0)) [ true ↦ tt | false ↦ h ]
 
 pub log_good : (schema : Schema) (bytes : List ℕ) (records : List LogRecord) → log_of schema bytes ≡ Ok records → AllByRecursion (IsTimed schema) records × HavePlaces 0 records
 log_good schema bytes records is = subst (λ r. IfOk r (AreGood schema 0)) is (limit_good schema (records_of schema (lines_from 1 bytes)) (records_good schema 1 0 (lines_from 1 bytes) refl (lines_numbered 1 bytes)))

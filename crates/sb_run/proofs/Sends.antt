@@ -2,7 +2,7 @@
 use Rattle.std.proofs.Common.{◌≡◌, ℕ, List, [], ◌++◌, Option, Some, None, option_map, refl, sym, ap, ◌∙◌, append_assoc, append-nil}
 use Rattle.std.specs.Option.{unwrap_or}
 use Rattle.sb_io.specs.Sink.{Appends}
-use Rattle.sb_run.specs.Sending.{Sends}
+use Rattle.sb_run.specs.Blocks.{Sends}
 
 given : (x y : List ℕ) → Some x ≡ Some y → x ≡ y
 given x y is = ap (λ o. unwrap_or o x) is

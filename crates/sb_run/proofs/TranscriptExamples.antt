@@ -1,24 +1,24 @@
 -- Lines that answer a script of three asks though no run without workers writes them, and two that don't.
-use Rattle.std.proofs.Common.{pos, negsuc, [], ◌∷◌, refl, arith, codes}
-use Rattle.std.specs.Fmt.{digits}
+use Rattle.std.proofs.Common.{ℤ, pos, negsuc, [], ◌∷◌, refl, arith, codes}
+use Rattle.std.specs.Fmt.{digits, signed_decimal}
 use Rattle.sb_report.specs.declared.script.Ask.{Ask}
 use Rattle.sb_report.specs.declared.script.Ask.TheVariants as ask
 use Rattle.sb_report.specs.declared.line.TranscriptLine.{TranscriptLine}
 use Rattle.sb_report.specs.declared.line.TranscriptLine.TheVariants as line
-use Rattle.sb_run.specs.Run.{Run, job_record}
+use Rattle.sb_run.specs.Program.{plus}
+use Rattle.sb_run.specs.Run.{Run}
 use Rattle.sb_run.specs.Transcript.{Answers, AnswerAll}
 
 -- three records in two chunks and two batches
-run : Run
+run : Run ℤ
 run = record {
-  store = codes "total";
-  emissions = record { position = 0; key = codes "a"; value = pos 5 } ∷ record { position = 1; key = codes "b"; value = pos 7 } ∷ record { position = 2; key = codes "a"; value = negsuc 1 } ∷ [];
-  job = record {
-    records = job_record 0 (record { position = 0; key = codes "a"; value = pos 5 }) ∷ job_record 0 (record { position = 1; key = codes "b"; value = pos 7 }) ∷ job_record 1 (record { position = 2; key = codes "a"; value = negsuc 1 }) ∷ [];
-    chunk = 2;
-    shards = 1;
-    lag = 0;
-  };
+  stores = record {
+    name = codes "total";
+    add = plus;
+    text = signed_decimal;
+    emissions = record { position = 0; key = codes "a"; value = pos 5 } ∷ record { position = 1; key = codes "b"; value = pos 7 } ∷ record { position = 2; key = codes "a"; value = negsuc 1 } ∷ [];
+  } ∷ [];
+  places = record { batches = 0 ∷ 0 ∷ 1 ∷ []; chunk = 2; shards = 1 };
 }
 
 work : Ask

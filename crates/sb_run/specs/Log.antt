@@ -5,7 +5,9 @@ use Rattle.sb_text.specs.Columns.{columns_of}
 use Rattle.sb_text.specs.Decimal.{integer}
 use Rattle.sb_text.specs.Field.{field_text}
 use Rattle.sb_text.specs.Lines.{Line, lines_of}
-use Rattle.sb_run.specs.Schema.{Schema, Source, batch_of}
+use Rattle.sb_feed.specs.Limits.{last_batch}
+use Rattle.sb_run.specs.Limits.{most_line_bytes, most_records}
+use Rattle.sb_run.specs.Schema.{Schema, Source, batch_of_time}
 use Rattle.sb_run.specs.Value.{Value, int, text, truth}
 use Rattle.sb_run.specs.declared.log.LineKind.{LineKind}
 use Rattle.sb_run.specs.declared.log.LineKind.TheVariants.{TooLong, NoEnd, NoSource, BadTime, Early, FarBatch, FieldCount, BadField}
@@ -53,7 +55,7 @@ abbrev pub after_time : Schema → ℕ → ℕ × Source → List (List ℕ) →
 after_time schema position source columns None = Err BadTime
 after_time schema position source columns (Some time) =
     if int_lt time schema.from then Err Early
-    else (if nat_lt 65535 (batch_of schema time) then Err FarBatch
+    else (if nat_lt last_batch (batch_of_time schema time) then Err FarBatch
     else with_fields position source.0 time (fields_of source.1.fields columns))
 
 -- what stands behind the source's name
@@ -75,7 +77,7 @@ record_in schema position (name ∷ columns) = after_source schema position colu
 -- the record that a line says, or the first thing that is wrong with it
 abbrev pub record_of : Schema → Line → Result LogRecord LineKind
 record_of schema line =
-    if nat_lt 16384 (length line.bytes) then Err TooLong
+    if nat_lt most_line_bytes (length line.bytes) then Err TooLong
     else (if line.ended then record_in schema (line.number - 1) (columns_of line.bytes) else Err NoEnd)
 
 -- what is wrong with a log: the first line that isn't good, or too many lines that all are
@@ -96,7 +98,7 @@ records_of schema (line ∷ lines) = onto_records line.number (record_of schema 
 -- no more than 1,048,576 records
 abbrev pub within_limit : Result (List LogRecord) LogFault → Result (List LogRecord) LogFault
 within_limit (Err fault) = Err fault
-within_limit (Ok records) = if nat_lt 1048576 (length records) then Err too_many else Ok records
+within_limit (Ok records) = if nat_lt most_records (length records) then Err too_many else Ok records
 
 -- the records of a text, which is an empty log where it is empty, or what is wrong with it
 abbrev pub log_of : Schema → List ℕ → Result (List LogRecord) LogFault

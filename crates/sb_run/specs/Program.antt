@@ -1,10 +1,8 @@
 -- What a program of the served form means: one source, and one store that sums an int field by a key field.
 use Rattle.std.specs.Prelude.{ℕ, ℤ, pos, List, [], ◌∷◌, map, slice_index_or}
 use Rattle.std.specs.Int.{w64, int_wrapping_add}
-use Rattle.std.specs.Fmt.{signed_decimal}
 use Rattle.sb_run.specs.Fold.{Emission}
 use Rattle.sb_run.specs.Log.{LogRecord}
-use Rattle.sb_run.specs.Report.{store_report}
 use Rattle.sb_run.specs.Schema.{Schema}
 use Rattle.sb_run.specs.Value.{Value, int, text, truth, value_text}
 use Rattle.sb_run.specs.declared.program.FieldType.{FieldType}
@@ -53,7 +51,3 @@ emission_of program record' = record {
   key = value_text (field_at program.key record'.fields);
   value = number_of (field_at program.value record'.fields);
 }
-
--- the report of the program on these records
-abbrev pub report_of : Program → List LogRecord → List ℕ
-report_of program records = store_report plus signed_decimal program.store (map (emission_of program) records)

@@ -19,5 +19,5 @@ size (pos n) = n
 size (negsuc n) = 0
 
 -- the batch of a time that isn't before `from`: the floor of the quotient
-abbrev pub batch_of : Schema → ℤ → ℕ
-batch_of schema time = size (time -ℤ schema.from) / schema.length
+abbrev pub batch_of_time : Schema → ℤ → ℕ
+batch_of_time schema time = size (time -ℤ schema.from) / schema.length

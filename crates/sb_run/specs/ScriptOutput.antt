@@ -6,7 +6,9 @@ use Rattle.sb_report.specs.declared.script.Ask.{Ask}
 use Rattle.sb_report.specs.declared.script.Ask.TheVariants as ask
 use Rattle.sb_report.specs.declared.line.TranscriptLine.{TranscriptLine}
 use Rattle.sb_report.specs.declared.line.TranscriptLine.TheVariants as line
-use Rattle.sb_run.specs.Run.{Run, chunks_of, batches_of, good_value, report_text}
+use Rattle.sb_feed.specs.Limits.{last_batch}
+use Rattle.sb_feed.specs.Places.{Places, batches_of, chunks_of}
+use Rattle.sb_run.specs.Run.{Run, store_name, good_value, report_text}
 
 -- how many chunks are worked and how many batches are published, and the floor, which nothing raises
 pub record Progress : Type 0 where
@@ -17,39 +19,35 @@ pub record Progress : Type 0 where
 abbrev pub start : Progress
 start = record { worked = 0; published = 0; floor = 0 }
 
--- the batch for which a plain read asks
-abbrev pub last_batch : ℕ
-last_batch = 65535
-
 -- the first chunks, as many as are worked
 abbrev pub cover_at : Progress → List ℕ
 cover_at at = range_with_len 0 at.worked
 
 -- what an ask changes
-abbrev pub after : Run → Progress → Ask → Progress
-after run at (ask.Read store key) = at
-after run at (ask.Work most) = record { worked = min (at.worked + most) (chunks_of run); published = at.published; floor = at.floor }
-after run at (ask.Publish upto) = record { worked = at.worked; published = max at.published (min upto (batches_of run)); floor = at.floor }
+abbrev pub after : Places → Progress → Ask → Progress
+after places at (ask.Read store key) = at
+after places at (ask.Work most) = record { worked = min (at.worked + most) (chunks_of places); published = at.published; floor = at.floor }
+after places at (ask.Publish upto) = record { worked = at.worked; published = max at.published (min upto (batches_of places)); floor = at.floor }
 
 -- the line of an ask
-abbrev pub answer_line : Run → Progress → Ask → TranscriptLine
+abbrev pub answer_line : {E : Type 0} → Run E → Progress → Ask → TranscriptLine
 answer_line run at (ask.Read store key) =
-    line.Read store key (good_value run last_batch key at.published (cover_at at)) at.published at.floor (cover_at at)
+    line.Read store key (good_value run store last_batch key at.published (cover_at at)) at.published at.floor (cover_at at)
 answer_line run at (ask.Work most) =
-    line.Worked ((after run at (ask.Work most)).worked - at.worked) (range_with_len at.worked ((after run at (ask.Work most)).worked - at.worked))
-answer_line run at (ask.Publish upto) = line.Published (after run at (ask.Publish upto)).published
+    line.Worked ((after run.places at (ask.Work most)).worked - at.worked) (range_with_len at.worked ((after run.places at (ask.Work most)).worked - at.worked))
+answer_line run at (ask.Publish upto) = line.Published (after run.places at (ask.Publish upto)).published
 
 -- the lines of a script's asks
-abbrev pub script_lines : Run → Progress → List Ask → List TranscriptLine
+abbrev pub script_lines : {E : Type 0} → Run E → Progress → List Ask → List TranscriptLine
 script_lines run at [] = []
-script_lines run at (a ∷ asks) = answer_line run at a ∷ script_lines run (after run at a) asks
+script_lines run at (a ∷ asks) = answer_line run at a ∷ script_lines run (after run.places at a) asks
 
-abbrev pub lines_text : List ℕ → List TranscriptLine → List ℕ
-lines_text store lines = flat_map (line_text store) lines
+abbrev pub lines_text : (ℕ → List ℕ) → List TranscriptLine → List ℕ
+lines_text name lines = flat_map (line_text name) lines
 
 -- the lines of the script, `drained`, the report, and `end`
-abbrev pub transcript_of : Run → List TranscriptLine → List ℕ
-transcript_of run lines = lines_text run.store lines ++ (line_text run.store line.Drained ++ (report_text run ++ line_text run.store line.End))
+abbrev pub transcript_of : {E : Type 0} → Run E → List TranscriptLine → List ℕ
+transcript_of run lines = lines_text (store_name run) lines ++ (line_text (store_name run) line.Drained ++ (report_text run ++ line_text (store_name run) line.End))
 
-abbrev pub run_text : Run → List Ask → List ℕ
+abbrev pub run_text : {E : Type 0} → Run E → List Ask → List ℕ
 run_text run asks = transcript_of run (script_lines run start asks)

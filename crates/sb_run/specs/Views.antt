@@ -1,11 +1,11 @@
 -- What contracts see of the Rust types.
-use Rattle.std.specs.Prelude.{◌≡◌, ℕ, ℤ, Bool, ◌||◌, nat_lt, not, bytes_eq, List, ◌++◌, length, map, Option, Some, None, Result, Ok, Err, if◌then◌else◌}
+use Rattle.std.specs.Prelude.{◌≡◌, ℕ, Bool, ◌||◌, nat_lt, not, bytes_eq, List, ◌++◌, length, map, Option, Some, None, Result, Ok, Err, if◌then◌else◌}
 use Rattle.std.specs.List.{prefix_len}
 use Rattle.std.specs.Borrow.{Bor}
 use Rattle.std.specs.declared.vec.Vec.{Vec}
 use Rattle.std.specs.declared.alloc.Global.{Global}
 use Rattle.sb_run.specs.Log as log
-use Rattle.sb_run.specs.Fold.{Emission}
+use Rattle.sb_run.specs.Limits.{most_records}
 use Rattle.sb_run.specs.Program as program
 use Rattle.sb_run.specs.Schema as schema
 use Rattle.sb_run.specs.Value as value
@@ -17,7 +17,6 @@ use Rattle.sb_run.specs.declared.log.LogError.TheVariants as log_error
 use Rattle.sb_run.specs.declared.log.LogRecord.{LogRecord}
 use Rattle.sb_run.specs.declared.log.Value.{Value}
 use Rattle.sb_run.specs.declared.log.Value.TheVariants as value_kind
-use Rattle.sb_run.specs.declared.emission.Emission as emitted
 use Rattle.sb_grammar.specs.declared.programs.FieldTree.{FieldTree}
 use Rattle.sb_run.specs.declared.outline.Outline.{Outline}
 use Rattle.sb_run.specs.declared.program.Field.{Field}
@@ -70,7 +69,7 @@ ReadsLog view said (Err log_error.NoMemory) = Unit {0}
 -- The records of a log, where these were kept and those are still to come. Past the limit good lines are read and not kept.
 abbrev pub kept_before : List log.LogRecord → Bool → Result (List log.LogRecord) log.LogFault → Result (List log.LogRecord) log.LogFault
 kept_before kept too_many (Err fault) = Err fault
-kept_before kept too_many (Ok others) = if too_many || nat_lt 1048576 (length (kept ++ others)) then Err log.too_many else Ok (kept ++ others)
+kept_before kept too_many (Ok others) = if too_many || nat_lt most_records (length (kept ++ others)) then Err log.too_many else Ok (kept ++ others)
 
 abbrev pub field_view : Field → program.Field
 field_view field = record { name = field.name; type = field.field_type }
@@ -85,12 +84,6 @@ program_view program' = record {
   key = program'.key;
   value = program'.value;
 }
-
-abbrev pub emission_view : emitted.Emission → Emission ℤ
-emission_view emission = record { position = emission.position; key = emission.key; value = emission.value }
-
-abbrev pub emissions_view : Vec emitted.Emission Global → List (Emission ℤ)
-emissions_view emissions = map emission_view emissions.items
 
 abbrev pub fields_view : Vec Field Global → List program.Field
 fields_view fields = map field_view fields.items

@@ -1,6 +1,6 @@
-// The words of a command line.
+//! The words of a command line.
 ghost use Rattle.std.specs.Prelude.{◌≡◌, IfSome, option_map};
-ghost use Rattle.sb_run.specs.Answer.{command_of, batch_of, run_with, options_in, behind_option, chunk_in};
+ghost use Rattle.sb_run.specs.Words.{command_of, batch_words, run_words, options_in, behind_option, chunk_in};
 ghost use Rattle.sb_run.specs.Call.{texts};
 ghost use Rattle.sb_run.specs.Commands.{command_view, IsChunked};
 
@@ -38,7 +38,7 @@ pub fn read_words(words: &[String]) -> Option<Command<'_>>
 }
 
 fn read_batch(words: &[String]) -> Option<Command<'_>>
-    ensures command { command_view result ≡ batch_of (texts words.now) }
+    ensures command { command_view result ≡ batch_words (texts words.now) }
     ensures chunk { IfSome result IsChunked }
 {
     match words {
@@ -48,7 +48,7 @@ fn read_batch(words: &[String]) -> Option<Command<'_>>
 }
 
 fn read_run(words: &[String]) -> Option<Command<'_>>
-    ensures command { command_view result ≡ run_with (texts words.now) }
+    ensures command { command_view result ≡ run_words (texts words.now) }
     ensures chunk { IfSome result IsChunked }
 {
     let [program, log, script, options @ ..] = words else {
@@ -77,7 +77,8 @@ fn read_options(words: &[String]) -> Option<u64>
 
 // The words behind an option with this value.
 fn behind_option<'w>(words: &'w [String], name: &str, value: &str) -> Option<&'w [String]>
-    ensures { option_map (λ rest. texts rest.now) result ≡ behind_option name.now value.now (texts words.now) }
+    ensures { option_map (λ rest. texts rest.now) result
+        ≡ behind_option name.now value.now (texts words.now) }
 {
     match words {
         [first, second, rest @ ..] if first.as_str() == name && second.as_str() == value => {

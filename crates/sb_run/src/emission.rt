@@ -1,8 +1,8 @@
-// What the records of a log emit into the store.
+//! What the records of a log emit into the store.
 ghost use Rattle.std.specs.Prelude.{◌≡◌, map, IfOk};
 ghost use Rattle.sb_run.specs.Program.{emission_of, field_at, number_of};
 ghost use Rattle.sb_run.specs.Value.{value_text};
-ghost use Rattle.sb_run.specs.Views.{program_view, record_view, records_view, value_view, values_view, emission_view, emissions_view};
+ghost use Rattle.sb_run.specs.Views.{program_view, record_view, value_view, values_view};
 
 use crate::log::{LogRecord, Value};
 use crate::program::Program;
@@ -12,26 +12,9 @@ use std::alloc::Global;
 /// What a record emits into the store.
 #[derive(Debug, Drop)]
 pub struct Emission {
-    /// The record's place in the log, from 0.
-    pub position: u64,
     /// The key's text.
     pub key: Text,
     pub value: i64,
-}
-
-/// What the records emit, in log order.
-pub fn emissions(
-    alloc: Global,
-    program: &Program,
-    records: Vec<LogRecord>,
-) -> Result<Vec<Emission>, NoMemory>
-    ensures { IfOk result (λ emissions. emissions_view emissions ≡ map (emission_of (program_view program.now)) (records_view records)) }
-{
-    let mut emissions = Vec::with_capacity(alloc, records.len())?;
-    for logged in records {
-        emissions.push(emission_of(alloc, program, logged)?)?;
-    }
-    Ok(emissions)
 }
 
 /// What a record emits.
@@ -40,20 +23,15 @@ pub fn emission_of(
     program: &Program,
     logged: LogRecord,
 ) -> Result<Emission, NoMemory>
-    ensures { IfOk result (λ emission. emission_view emission ≡ emission_of (program_view program.now) (record_view logged)) }
+    ensures key { IfOk result (λ emission. emission.key
+        ≡ (emission_of (program_view program.now) (record_view logged)).key) }
+    ensures value { IfOk result (λ emission. emission.value
+        ≡ (emission_of (program_view program.now) (record_view logged)).value) }
 {
-    let LogRecord {
-        position,
-        fields,
-        ..
-    } = logged;
+    let fields = logged.fields;
     let value = number_at(&fields, program.value);
     let key = value_text(alloc, take_field(fields, program.key))?;
-    Ok(Emission {
-        position,
-        key,
-        value,
-    })
+    Ok(Emission { key, value })
 }
 
 // The number of the int at this place.

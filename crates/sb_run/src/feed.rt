@@ -1,14 +1,14 @@
-// The records of a log as a feed of one store.
-ghost use Rattle.std.specs.Prelude.{◌≡◌, ◌<◌, ◌≤◌, map, length, IfOk, FitsSigned};
-ghost use Rattle.std.specs.Int.{w64};
+//! The records of a log as a feed of one store.
+ghost use Rattle.std.specs.Prelude.{◌≡◌, ◌<◌, [], map, length, IfOk};
 ghost use Rattle.std.specs.List.{AllByRecursion};
 ghost use Rattle.sb_run.specs.Feed.{entry_view, IsEntry, IsAt, entry_of, IsTimed};
 ghost use Rattle.sb_run.specs.Program.{schema_of};
-ghost use Rattle.sb_run.specs.Views.{program_view, schema_view, record_view, records_view};
+ghost use Rattle.sb_run.specs.Steps.{AreLogged, HasBatch};
+ghost use Rattle.sb_run.specs.Views.{program_view, record_view, records_view};
 
 use crate::emission::emission_of;
-use crate::log::{LogRecord, batch_of_time};
-use crate::program::{Program, Schema};
+use crate::log::LogRecord;
+use crate::program::Program;
 use sb_feed::{Family, Feed, KeyBytes, Part, Printed};
 use sb_scalars::SumM;
 use sb_text::{NoMemory, Text, write_i64};
@@ -45,33 +45,35 @@ impl Model for StoreFeed {
 }
 
 impl StoreFeed {
+    /// A store of this name, and no records.
+    pub fn empty(alloc: Global, name: Text) -> StoreFeed
+        ensures { (result.name ≡ name) × (result.entries ≡ []) }
+    {
+        StoreFeed {
+            name,
+            sum: SumM::new(),
+            entries: Vec::new(alloc),
+        }
+    }
+
     /// The feed of a program's store over these records.
     pub fn new(
         alloc: Global,
         program: &Program,
-        schema: &Schema,
         records: Vec<LogRecord>,
     ) -> Result<StoreFeed, NoMemory>
-        requires length { 0 < schema.now.length }
-        requires schema { schema_view schema.now ≡ schema_of (program_view program.now) }
-        requires timed { AllByRecursion (IsTimed (schema_view schema.now)) (records_view records) }
+        requires logged { AreLogged (schema_of (program_view program.now)) records }
         ensures name { IfOk result (λ feed. feed.name ≡ program.now.store) }
-        ensures entries { IfOk result (λ feed. feed.entries ≡ map (entry_of (program_view program.now)) (records_view records)) }
+        ensures entries { IfOk result (λ feed. feed.entries
+            ≡ map (entry_of (program_view program.now)) (records_view records)) }
     {
         let name = program.store.copy(alloc)?;
-        let entries = entries_of(alloc, program, schema, records)?;
+        let entries = entries_of(alloc, program, records)?;
         Ok(StoreFeed {
             name,
             sum: SumM::new(),
             entries,
         })
-    }
-
-    /// The store's name.
-    pub fn store(&self) -> &Text
-        ensures { result.now ≡ self.now.name }
-    {
-        &self.name
     }
 
     fn entry(&self, i: u64) -> &Entry
@@ -86,35 +88,31 @@ impl StoreFeed {
 fn entries_of(
     alloc: Global,
     program: &Program,
-    schema: &Schema,
     records: Vec<LogRecord>,
 ) -> Result<Vec<Entry>, NoMemory>
-    requires length { 0 < schema.now.length }
-    requires schema { schema_view schema.now ≡ schema_of (program_view program.now) }
-    requires timed { AllByRecursion (IsTimed (schema_view schema.now)) (records_view records) }
-    ensures entries { IfOk result (λ entries. map entry_view entries.items ≡ map (entry_of (program_view program.now)) (records_view records)) }
+    requires timed { AllByRecursion (IsTimed (schema_of (program_view program.now)))
+        (records_view records) }
+    requires batches { AllByRecursion (HasBatch (schema_of (program_view program.now)))
+        records.items }
+    ensures entries { IfOk result (λ entries. map entry_view entries.items
+        ≡ map (entry_of (program_view program.now)) (records_view records)) }
     ensures valid { IfOk result (λ entries. AllByRecursion IsEntry (map entry_view entries.items)) }
 {
     let mut entries = Vec::with_capacity(alloc, records.len())?;
     for logged in records {
-        entries.push(entry_of(alloc, program, schema, logged)?)?;
+        entries.push(entry_of(alloc, program, logged)?)?;
     }
     Ok(entries)
 }
 
-fn entry_of(
-    alloc: Global,
-    program: &Program,
-    schema: &Schema,
-    logged: LogRecord,
-) -> Result<Entry, NoMemory>
-    requires length { 0 < schema.now.length }
-    requires schema { schema_view schema.now ≡ schema_of (program_view program.now) }
-    requires timed { IsTimed (schema_view schema.now) (record_view logged) }
-    ensures entry { IfOk result (λ entry. entry_view entry ≡ entry_of (program_view program.now) (record_view logged)) }
+fn entry_of(alloc: Global, program: &Program, logged: LogRecord) -> Result<Entry, NoMemory>
+    requires timed { IsTimed (schema_of (program_view program.now)) (record_view logged) }
+    requires batch { HasBatch (schema_of (program_view program.now)) logged }
+    ensures entry { IfOk result (λ entry. entry_view entry
+        ≡ entry_of (program_view program.now) (record_view logged)) }
     ensures valid { IfOk result (λ entry. IsEntry (entry_view entry)) }
 {
-    let batch = batch_of_time(schema, logged.time);
+    let batch = logged.batch;
     let emission = emission_of(alloc, program, logged)?;
     Ok(Entry {
         batch,
@@ -126,9 +124,9 @@ fn entry_of(
 impl Family for StoreFeed {
     type M = SumM;
 
-    ghost stores = { λ _. 1 };
+    ghost use Rattle.sb_run.specs.Feed.{feed_monoids};
 
-    ghost dictionary = { λ feed _. feed.sum };
+    ghost monoids = { feed_monoids };
 
     fn stores(&self) -> u32 {
         1
@@ -141,8 +139,10 @@ impl Family for StoreFeed {
 
 impl Printed for StoreFeed {
     ghost use Rattle.std.specs.Fmt.{signed_decimal};
+    ghost use Rattle.sb_run.specs.Feed.{feed_stores};
+    ghost use Rattle.sb_run.specs.Run.{name_in};
 
-    ghost name = { λ feed _. feed.name };
+    ghost name = { λ feed. name_in (feed_stores feed) };
 
     ghost printed = { λ _ _ value. signed_decimal value };
 

@@ -18,8 +18,10 @@ const GREATEST: u64 = 9_223_372_036_854_775_807;
 
 /// The program of the served form that a tree is of; `None` exactly where there is none.
 pub fn program_of(alloc: Global, tree: &Tree) -> Result<Option<Program>, NoMemory>
-    ensures some { IfOk result (λ program. IfSome program (λ p. Accepts tree.now (program_view p))) }
-    ensures every { IfOk result (λ program. (other : spec.Program) → Accepts tree.now other → IsReadAs program other) }
+    ensures some { IfOk result (λ program. IfSome program
+        (λ p. Accepts tree.now (program_view p))) }
+    ensures every { IfOk result (λ program. (other : spec.Program) → Accepts tree.now other
+        → IsReadAs program other) }
 {
     let Some(from) = start_of(tree.minus, tree.from) else {
         return Ok(None);
@@ -37,8 +39,10 @@ pub fn program_of(alloc: Global, tree: &Tree) -> Result<Option<Program>, NoMemor
 
 // The start with its sign; `None` for -0 and the numbers from 2^63 on.
 fn start_of(minus: bool, from: u64) -> Option<i64>
-    ensures some { IfSome result (λ start. (minus ≡ int_lt start (pos 0)) × (from ≡ unsigned_abs start)) }
-    ensures every { (start : ℤ) → is_start start ≡ true → minus ≡ int_lt start (pos 0) → from ≡ unsigned_abs start → result ≡ Some start }
+    ensures some { IfSome result (λ start. (minus ≡ int_lt start (pos 0))
+        × (from ≡ unsigned_abs start)) }
+    ensures every { (start : ℤ) → is_start start ≡ true → minus ≡ int_lt start (pos 0)
+        → from ≡ unsigned_abs start → result ≡ Some start }
 {
     if from > GREATEST || (minus && from == 0) {
         return None;
@@ -55,9 +59,12 @@ fn named_program(
     outline: Outline<'_>,
 ) -> Result<Program, NoMemory>
     ensures head { IfOk result (λ p. (p.length ≡ length) × (p.from ≡ from)) }
-    ensures names { IfOk result (λ p. (p.source ≡ outline.entry.source.now) × (p.store ≡ outline.entry.store.now)) }
-    ensures fields { IfOk result (λ p. map field_tree (fields_view p.fields) ≡ outline.entry.fields.now) }
-    ensures places { IfOk result (λ p. (p.key ≡ first_named outline.entry.key.now p.fields.items) × (p.value ≡ first_named outline.entry.value.now p.fields.items)) }
+    ensures names { IfOk result (λ p. (p.source ≡ outline.entry.source.now)
+        × (p.store ≡ outline.entry.store.now)) }
+    ensures fields { IfOk result (λ p. map field_tree (fields_view p.fields)
+        ≡ outline.entry.fields.now) }
+    ensures places { IfOk result (λ p. (p.key ≡ first_named outline.entry.key.now p.fields.items)
+        × (p.value ≡ first_named outline.entry.value.now p.fields.items)) }
 {
     let fields = fields_of(alloc, outline.fields)?;
     let key = place_of(outline.key.as_bytes(), &fields);
@@ -145,13 +152,15 @@ fn are_fields(program: &Program) -> bool
 }
 
 fn are_declared(fields: &[Field]) -> bool
-    ensures { result ≡ (list_all is_named_and_served (map field_view fields.now) && are_distinct (map field_view fields.now)) }
+    ensures { result ≡ (list_all is_named_and_served (map field_view fields.now) && are_distinct
+        (map field_view fields.now)) }
 {
     are_named(fields) && are_distinct(fields)
 }
 
 fn are_chosen(key: usize, value: usize, fields: &[Field]) -> bool
-    ensures { result ≡ (nat_lt key (length (map field_view fields.now)) && is_int (field_at value (map field_view fields.now)).type) }
+    ensures { result ≡ (nat_lt key (length (map field_view fields.now)) && is_int
+        (field_at value (map field_view fields.now)).type) }
 {
     key < fields.len() && is_int_at(value, fields)
 }
@@ -177,7 +186,8 @@ fn are_named(fields: &[Field]) -> bool
 }
 
 fn has_name(fields: &[Field], name: &[u8]) -> bool
-    ensures { result ≡ list_any (λ field. bytes_eq name.now field.name) (map field_view fields.now) }
+    ensures { result ≡ list_any (λ field. bytes_eq name.now field.name)
+        (map field_view fields.now) }
 {
     for field in fields {
         if name == field.name.as_bytes() {

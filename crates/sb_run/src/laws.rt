@@ -1,13 +1,11 @@
 // Laws of the definitions, each on a function that does nothing.
-ghost use Rattle.std.specs.Prelude.{List};
+ghost use Rattle.std.specs.Prelude.{ℤ, List};
 ghost use Rattle.sb_report.specs.declared.script.Ask.{Ask};
 ghost use Rattle.sb_run.specs.Run.{Run};
 ghost use Rattle.sb_run.specs.ScriptOutput.{run_text};
-ghost use Rattle.sb_run.specs.Settled.{IsSettled};
-ghost use Rattle.sb_run.specs.Transcript.{IsTranscript};
+ghost use Rattle.sb_run.specs.Settled.{serial, IsSettled};
 
-/// What a run without workers writes is a transcript, and a settled one.
+/// What a run without workers writes is a settled transcript.
 pub fn script_output_is_transcript()
-    ensures transcript { (run : Run) (asks : List Ask) → IsTranscript run asks (run_text run asks) }
-    ensures settled { (run : Run) (asks : List Ask) → IsSettled run asks (run_text run asks) }
+    ensures { (run : Run ℤ) (asks : List Ask) → IsSettled serial run asks (run_text run asks) }
 {}

@@ -1,6 +1,7 @@
 //! The commands: from words, files and a sink to the bytes that are written and the status.
 #![tactic(auto)]
 
+mod answering;
 mod batch;
 mod command;
 mod emission;
@@ -14,12 +15,7 @@ mod program;
 mod refusal;
 mod report;
 mod run;
-mod serving;
 mod top;
-mod totals;
 
 pub use laws::script_output_is_transcript;
 pub use top::summingbird;
-
-#[cfg(test)]
-mod tests;

@@ -1,9 +1,11 @@
-// The log: its lines as records.
+//! The log: its lines as records.
 ghost use Rattle.std.specs.Prelude.{◌≡◌, ◌<◌, ◌≤◌, ◌+◌, ◌++◌, ◌≤ℤ◌, ℕ, length, map, drop, IfOk, OnOk, option_map, Some};
+ghost use Rattle.std.specs.List.{AllByRecursion};
 ghost use Rattle.sb_text.specs.Columns.{columns_of};
 ghost use Rattle.sb_text.specs.Lines.{line_view};
 ghost use Rattle.sb_run.specs.Log.{value_of, truth_of, fields_from, fields_of, source_from, record_of, record_in, after_source, after_time, log_of};
-ghost use Rattle.sb_run.specs.Schema.{batch_of};
+ghost use Rattle.sb_run.specs.Schema.{batch_of_time};
+ghost use Rattle.sb_run.specs.Steps.{HasBatch};
 ghost use Rattle.sb_run.specs.Views.{value_view, values_view, source_view, found_view, schema_view, record_view, records_view, ReadsLine, ReadsLog};
 
 use crate::program::{FieldType, Schema, Source};
@@ -62,6 +64,8 @@ pub struct LogRecord {
     pub source: u64,
     /// Its time in milliseconds.
     pub time: i64,
+    /// The batch of its time, at most 65,535.
+    pub batch: u64,
     pub fields: Vec<Value>,
 }
 
@@ -129,11 +133,11 @@ fn read_fields(
     Ok(values)
 }
 
-/// The batch of a time that isn't before `from`.
-pub fn batch_of_time(schema: &Schema, time: i64) -> u64
+// The batch of a time that isn't before `from`.
+fn batch_of_time(schema: &Schema, time: i64) -> u64
     requires length { 0 < schema.now.length }
     requires time { schema.now.from ≤ℤ time }
-    ensures { result ≡ batch_of (schema_view schema.now) time }
+    ensures { result ≡ batch_of_time (schema_view schema.now) time }
 {
     let passed = (i128::from(time) - i128::from(schema.from)) as u64;
     passed / schema.length
@@ -163,12 +167,15 @@ fn read_timed(
     time: i64,
 ) -> Result<LogRecord, LineError>
     requires length { 0 < schema.now.length }
-    ensures { ReadsLine record_view (after_time (schema_view schema.now) position (found_view found.entry) columns.old (Some time)) result }
+    ensures read { ReadsLine record_view (after_time (schema_view schema.now) position
+        (found_view found.entry) columns.old (Some time)) result }
+    ensures batch { IfOk result (HasBatch (schema_view schema.now)) }
 {
     if time < schema.from {
         return Err(LineError::Bad(LineKind::Early));
     }
-    if batch_of_time(schema, time) > BATCH_LIMIT {
+    let batch = batch_of_time(schema, time);
+    if batch > BATCH_LIMIT {
         return Err(LineError::Bad(LineKind::FarBatch));
     }
     let (source, declared) = found;
@@ -180,6 +187,7 @@ fn read_timed(
         position,
         source,
         time,
+        batch,
         fields,
     })
 }
@@ -192,7 +200,9 @@ fn read_columns(
     columns: &mut Columns<'_>,
 ) -> Result<LogRecord, LineError>
     requires length { 0 < schema.now.length }
-    ensures { ReadsLine record_view (record_in (schema_view schema.now) position columns.old) result }
+    ensures read { ReadsLine record_view (record_in (schema_view schema.now) position columns.old)
+        result }
+    ensures batch { IfOk result (HasBatch (schema_view schema.now)) }
 {
     let Some(name) = columns.next() else {
         return Err(LineError::Bad(LineKind::NoSource));
@@ -212,7 +222,9 @@ fn read_columns(
 // The record that a line says.
 fn read_record(alloc: Global, schema: &Schema, line: Line<'_>) -> Result<LogRecord, LineError>
     requires length { 0 < schema.now.length }
-    ensures { ReadsLine record_view (record_of (schema_view schema.now) (line_view line.entry)) result }
+    ensures read { ReadsLine record_view (record_of (schema_view schema.now) (line_view line.entry))
+        result }
+    ensures batch { IfOk result (HasBatch (schema_view schema.now)) }
 {
     if line.bytes.len() > LINE_LIMIT {
         return Err(LineError::Bad(LineKind::TooLong));
@@ -227,7 +239,9 @@ fn read_record(alloc: Global, schema: &Schema, line: Line<'_>) -> Result<LogReco
 /// The records of a log, one for each line, or the first that is wrong with it. Takes memory for the records alone.
 pub fn read_log(alloc: Global, schema: &Schema, bytes: &[u8]) -> Result<Vec<LogRecord>, LogError>
     requires length { 0 < schema.now.length }
-    ensures { ReadsLog records_view (log_of (schema_view schema.now) bytes.now) result }
+    ensures read { ReadsLog records_view (log_of (schema_view schema.now) bytes.now) result }
+    ensures batches { IfOk result (λ records.
+        AllByRecursion (HasBatch (schema_view schema.now)) records.items) }
 {
     let mut records = Vec::new(alloc);
     let mut too_many = false;

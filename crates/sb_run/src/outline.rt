@@ -32,7 +32,9 @@ pub struct Outline<'a> {
 /// The parts of a source and of a store that sums one of its fields by another; `None` exactly where the statements are
 /// others.
 pub fn outline_of(statements: &[Statement]) -> Option<Outline<'_>>
-    ensures some { IfSome result (λ o. statements.now ≡ source_tree o.source.now o.fields.now ∷ store_tree o.store.now o.source.now o.key.now o.value.now ∷ []) }
+    ensures some { IfSome result (λ o. statements.now
+        ≡ source_tree o.source.now o.fields.now
+        ∷ store_tree o.store.now o.source.now o.key.now o.value.now ∷ []) }
     ensures every { (source : List ℕ) (fields : List FieldTree) (store key value : List ℕ)
         → statements.now ≡ source_tree source fields ∷ store_tree store source key value ∷ []
         → option_map outline_view result ≡ Some (source, (fields, (store, (key, value)))) }
@@ -57,7 +59,10 @@ pub fn outline_of(statements: &[Statement]) -> Option<Outline<'_>>
 
 fn source_of(statement: &Statement) -> Option<(&Text, &[FieldTree])>
     ensures some { IfSome result (λ r. statement.now ≡ source_tree r.0.now r.1.now) }
-    ensures every { (source : List ℕ) (fields : List FieldTree) → statement.now ≡ source_tree source fields → option_map {U = List ℕ × List FieldTree} (λ r. (r.0.now, r.1.now)) result ≡ Some (source, fields) }
+    ensures every { (source : List ℕ) (fields : List FieldTree)
+        → statement.now ≡ source_tree source fields
+        → option_map {U = List ℕ × List FieldTree} (λ r. (r.0.now, r.1.now)) result
+        ≡ Some (source, fields) }
 {
     match statement {
         Statement::Source { name, fields } => Some((name, fields.as_slice())),
@@ -67,7 +72,9 @@ fn source_of(statement: &Statement) -> Option<(&Text, &[FieldTree])>
 
 fn store_of(statement: &Statement) -> Option<(&Text, &Stream)>
     ensures some { IfSome result (λ r. statement.now ≡ statements.Store r.0.now r.1.now monos.Sum) }
-    ensures every { (store : List ℕ) (stream : Stream) → statement.now ≡ statements.Store store stream monos.Sum → option_map {U = List ℕ × Stream} (λ r. (r.0.now, r.1.now)) result ≡ Some (store, stream) }
+    ensures every { (store : List ℕ) (stream : Stream)
+        → statement.now ≡ statements.Store store stream monos.Sum
+        → option_map {U = List ℕ × Stream} (λ r. (r.0.now, r.1.now)) result ≡ Some (store, stream) }
 {
     match statement {
         Statement::Store {
@@ -83,7 +90,9 @@ fn store_of(statement: &Statement) -> Option<(&Text, &Stream)>
 #[tactic(auto, unfolding(crate::specs::Form::summing_tree))]
 fn summing_of(stream: &Stream) -> Option<(&Text, &Text, &Text)>
     ensures some { IfSome result (λ r. stream.now ≡ summing_tree r.0.now r.1.now r.2.now) }
-    ensures every { (source key value : List ℕ) → stream.now ≡ summing_tree source key value → option_map {U = List ℕ × (List ℕ × List ℕ)} (λ r. (r.0.now, (r.1.now, r.2.now))) result ≡ Some (source, (key, value)) }
+    ensures every { (source key value : List ℕ) → stream.now ≡ summing_tree source key value
+        → option_map {U = List ℕ × (List ℕ × List ℕ)} (λ r. (r.0.now, (r.1.now, r.2.now))) result
+        ≡ Some (source, (key, value)) }
 {
     let Head::Name(source) = &stream.head else {
         return None;
@@ -99,7 +108,8 @@ fn summing_of(stream: &Stream) -> Option<(&Text, &Text, &Text)>
 #[tactic(auto, unfolding(crate::specs::Form::pair_tree))]
 fn pair_of(expr: &Expr) -> Option<(&Text, &Text)>
     ensures some { IfSome result (λ r. expr.now ≡ pair_tree r.0.now r.1.now) }
-    ensures every { (key value : List ℕ) → expr.now ≡ pair_tree key value → option_map {U = List ℕ × List ℕ} (λ r. (r.0.now, r.1.now)) result ≡ Some (key, value) }
+    ensures every { (key value : List ℕ) → expr.now ≡ pair_tree key value
+        → option_map {U = List ℕ × List ℕ} (λ r. (r.0.now, r.1.now)) result ≡ Some (key, value) }
 {
     let post = only_post(expr)?;
     let Atom::Pair(key, value) = &post.atom else {
@@ -143,7 +153,8 @@ fn only_post(expr: &Expr) -> Option<&Post>
 #[tactic(auto, unfolding(crate::specs::Form::unary_alone))]
 fn only_unary(expr: &Expr) -> Option<&Unary>
     ensures some { IfSome result (λ unary. expr.now ≡ unary_alone unary.now) }
-    ensures every { (unary : Unary) → expr.now ≡ unary_alone unary → option_copied result ≡ Some unary }
+    ensures every { (unary : Unary) → expr.now ≡ unary_alone unary
+        → option_copied result ≡ Some unary }
 {
     let prod = only_prod(expr)?;
     if prod.rest.is_empty() {

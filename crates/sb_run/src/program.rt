@@ -73,7 +73,8 @@ impl Program {
 
 fn source_of(alloc: Global, name: &Text, fields: &[Field]) -> Result<Source, NoMemory>
     ensures name { IfOk result (λ source. source.name ≡ name.now) }
-    ensures fields { IfOk result (λ source. source.fields.items ≡ map (λ field. field.type) (map field_view fields.now)) }
+    ensures fields { IfOk result (λ source. source.fields.items
+        ≡ map (λ field. field.type) (map field_view fields.now)) }
 {
     Ok(Source {
         name: name.copy(alloc)?,
@@ -82,7 +83,8 @@ fn source_of(alloc: Global, name: &Text, fields: &[Field]) -> Result<Source, NoM
 }
 
 fn types_of(alloc: Global, fields: &[Field]) -> Result<Vec<FieldType>, NoMemory>
-    ensures { IfOk result (λ types. types.items ≡ map (λ field. field.type) (map field_view fields.now)) }
+    ensures { IfOk result (λ types. types.items
+        ≡ map (λ field. field.type) (map field_view fields.now)) }
 {
     let mut types = Vec::with_capacity(alloc, fields.len())?;
     for field in fields {

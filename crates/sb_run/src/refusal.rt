@@ -1,6 +1,8 @@
+//! Refusals, and their error lines.
 ghost use Rattle.std.specs.Prelude.{◌≡◌, ◌≤◌, ◌+◌, ◌++◌, ℕ, List, codes, decimal, length};
-ghost use Rattle.sb_run.specs.Answer.{code_name};
-ghost use Rattle.sb_run.specs.Gathering.{refusal_answer, syntax_refusal, IsCausedAt};
+ghost use Rattle.sb_run.specs.Refusals.{code_name, refusal_answer};
+ghost use Rattle.sb_run.specs.Steps.{syntax_refusal, IsCausedAt};
+ghost use Rattle.sb_run.specs.declared.refusal.Which.TheVariants as which;
 
 use arrayvec::ArrayString;
 use itoa::Buffer;
@@ -45,7 +47,8 @@ impl Refusal {
     /// The refusal of a program's text that isn't parsed.
     pub fn of_syntax(error: SyntaxError) -> Refusal
         ensures value { result ≡ syntax_refusal error }
-        ensures cause { (name : List ℕ) (before now : List ℕ → ℕ) → IsCausedAt Which.Program name before now result }
+        ensures cause { (name : List ℕ) (before now : List ℕ → ℕ)
+            → IsCausedAt which.Program name before now result }
     {
         match error {
             SyntaxError::At { offset, code } => Refusal::Syntax { offset, code },
@@ -93,7 +96,8 @@ impl Refusal {
 }
 
 fn syntax_line(offset: u64, code: Code) -> ErrorLine
-    ensures { result.bytes ≡ codes "error 6 syntax " ++ (decimal offset ++ (codes " " ++ (code_name code ++ codes "\n"))) }
+    ensures { result.bytes ≡ codes "error 6 syntax "
+        ++ (decimal offset ++ (codes " " ++ (code_name code ++ codes "\n"))) }
 {
     let mut digits = Buffer::new();
     let mut text = line_of("error 6 syntax ");

@@ -1,14 +1,15 @@
-// The report, put in blocks of whole lines.
-ghost use Rattle.std.specs.Prelude.{◌≡◌, ◌++◌, [], IfSome, OnOk, Some};
-ghost use Rattle.std.specs.Fmt.{signed_decimal};
+//! The report, put in blocks of whole lines.
+ghost use Rattle.std.specs.Prelude.{◌≡◌, ◌<◌, [], ◌∷◌, OnOk};
+ghost use Rattle.std.specs.List.{flat_map};
+ghost use Rattle.sb_feed.specs.Jobs.{AreValid};
 ghost use Rattle.sb_io.specs.Sink.{Appends, HasSinkCause};
-ghost use Rattle.sb_report.specs.Report.{row_text};
-ghost use Rattle.sb_run.specs.Sending.{Sends};
-ghost use Rattle.sb_run.specs.Totals.{rows_of};
+ghost use Rattle.sb_run.specs.Blocks.{Sends};
+ghost use Rattle.sb_run.specs.Feed.{feed_row, sums};
 
-use crate::totals::Totals;
+use crate::feed::StoreFeed;
+use sb_feed::KeyBytes;
 use sb_io::{Sink, SinkError};
-use sb_text::{NoMemory, write_i64};
+use sb_report::write_row;
 use std::alloc::Global;
 
 // A report of many rows takes few puts.
@@ -18,15 +19,17 @@ const BLOCK: usize = 65_536;
 pub fn put_report<K: Sink>(
     alloc: Global,
     sink: &mut K,
-    store: &[u8],
-    totals: &Totals,
+    family: &StoreFeed,
+    rows: &[(KeyBytes, i64)],
 ) -> Result<(), SinkError>
-    ensures ok { OnOk result (Appends (rows_of store.now totals.now) (K.written sink.old) (K.written sink.new)) }
+    requires valid { AreValid (sums family.now) rows.now }
+    ensures ok { OnOk result (Appends (flat_map (feed_row family.now) rows.now) (K.written sink.old)
+        (K.written sink.new)) }
     ensures cause { HasSinkCause (K.faults sink.old) (K.faults sink.new) result }
 {
     let mut block = Vec::new(alloc);
-    for (key, sum) in totals.iter() {
-        put_row(alloc, sink, &mut block, store, key.as_bytes(), *sum)?;
+    for row in rows {
+        put_row(alloc, sink, &mut block, family, row)?;
     }
     put_block(sink, &mut block)
 }
@@ -36,36 +39,19 @@ fn put_row<K: Sink>(
     alloc: Global,
     sink: &mut K,
     block: &mut Vec<u8>,
-    store: &[u8],
-    key: &[u8],
-    sum: i64,
+    family: &StoreFeed,
+    row: &(KeyBytes, i64),
 ) -> Result<(), SinkError>
-    ensures ok { OnOk result (Sends (row_text store.now key.now (signed_decimal sum)) (K.written sink.old) block.old.items (K.written sink.new) block.new.items) }
+    requires valid { AreValid (sums family.now) (row.now ∷ []) }
+    ensures ok { OnOk result (Sends (feed_row family.now row.now) (K.written sink.old)
+        block.old.items (K.written sink.new) block.new.items) }
     ensures cause { HasSinkCause (K.faults sink.old) (K.faults sink.new) result }
 {
-    push_row(alloc, block, store, key, sum).map_err(|_| SinkError::NoMemory)?;
+    write_row(alloc, family, &row.0, &row.1, block).map_err(|_| SinkError::NoMemory)?;
     if block.len() < BLOCK {
         return Ok(());
     }
     put_block(sink, block)
-}
-
-fn push_row(
-    alloc: Global,
-    block: &mut Vec<u8>,
-    store: &[u8],
-    key: &[u8],
-    sum: i64,
-) -> Result<(), NoMemory>
-    ensures { OnOk result (block.new.items ≡ block.old.items ++ row_text store.now key.now (signed_decimal sum)) }
-{
-    block.extend_from_slice(store)?;
-    block.push(b'\t')?;
-    block.extend_from_slice(key)?;
-    block.push(b'\t')?;
-    write_i64(alloc, block, sum)?;
-    block.push(b'\n')?;
-    Ok(())
 }
 
 // Puts what waits.

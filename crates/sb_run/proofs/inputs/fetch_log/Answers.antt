@@ -1,10 +1,18 @@
 use Rattle.std.proofs.Common.{Ok, subst}
 use Rattle.sb_io.specs.Shelf.{IsFetched}
-use Rattle.sb_run.proofs.Programs.{log_is_due}
+use Rattle.sb_run.specs.Due.{ReadsLog}
+use Rattle.sb_run.specs.Limits.{most_log_bytes}
+use Rattle.sb_run.specs.Views.{program_view, records_view}
+use Rattle.sb_run.specs.declared.refusal.Refusal.TheVariants as refused
+use Rattle.sb_run.specs.declared.refusal.Which.TheVariants as which
+use Rattle.sb_run.proofs.Loading.{file_tells}
 use Rattle.sb_run.proofs.inputs.fetch_log.Goals as goal
 
 pub returns-in-Ok-All-clause-read : goal.returns-in-Ok-All-clause-read
 returns-in-Ok-All-clause-read g c =
     let content = g.H.Shelf.content c.args.shelf.now c.args.name.now in
-    log_is_due c.args.program.now content c.in-Ok-All.bytes c.deref.result.now c.read_records.result
-    (subst (λ fetched. IsFetched 67108864 content (Ok fetched)) c.in-Ok-All.field-0-is c.in-Ok-All.ensures.file) c.deref.ensures.value c.read_records.ensures.read
+    file_tells which.Log most_log_bytes refused.Log (ReadsLog (program_view c.args.program.now)) records_view content c.in-Ok-All.bytes c.deref.result.now c.read_records.result
+    (subst (λ fetched. IsFetched most_log_bytes content (Ok fetched)) c.in-Ok-All.field-0-is c.in-Ok-All.ensures.file) c.deref.ensures.value c.read_records.ensures.read
+
+pub returns-in-Ok-All-clause-cause : goal.returns-in-Ok-All-clause-cause
+returns-in-Ok-All-clause-cause g c = c.read_records.ensures.cause c.args.name.now (g.H.Shelf.faults c.args.shelf.now) (g.H.Shelf.faults c.fetch.new.self)

@@ -1,19 +1,26 @@
-use Rattle.std.proofs.Common.{arith, rules, FitsSigned, w64, to_z-of_z}
-use Rattle.std.specs.Fmt.{signed_decimal}
+use Rattle.std.proofs.Common.{◌≡◌, suc, ◌∷◌, [], ◌+◌, ◌++◌, ◌∙◌, drop, ap, sym, subst, arith}
+use Rattle.std.proofs.Math.Seq.{drop-cons}
 use Rattle.std.specs.List.{flat_map}
-use Rattle.sb_report.specs.Report.{row_text}
-use Rattle.sb_run.specs.Totals.{rows_of}
+use Rattle.sb_feed.specs.Jobs.{AreValid}
+use Rattle.sb_run.specs.Blocks.{Sends}
+use Rattle.sb_run.specs.Feed.{feed_row, sums}
 use Rattle.sb_run.proofs.Sends.{sends_on}
 use Rattle.sb_run.proofs.report.put_report.Goals as goal
 
-pub loop-key-preserved : goal.loop-key-preserved
-loop-key-preserved g c =
-    let sum_fits : FitsSigned w64 c.in-Some.sum.now = search rules in
-    let row = simp (to_z-of_z, c.as_bytes.ensures.value) at c.in_ok-put_row.ensures.ok in
-    let so_far = rw c.in-Some.ensures.steps at c.loop-key.invariant.sent in
+pub loop-row-preserved : goal.loop-row-preserved
+loop-row-preserved g c =
+    let family = c.args.family.now in
+    let rows = c.args.rows.now in
+    let at = c.loop-row.row-index in
+    let row = c.row-item.result in
+    let one_more : suc at ≡ at + 1 = omega arith in
+    let next : drop at rows ≡ row ∷ drop (at + 1) rows =
+    drop-cons rows at row (omega (arith, c.loop-row-test.true)) ∙ (ap (λ r. r ∷ drop (suc at) rows) (sym c.row-item.is) ∙ ap (λ n. row ∷ drop n rows) one_more) in
+    let told = g.K.Sink.written in
+    let so_far = subst (λ rest. Sends (flat_map (feed_row family) rows) (told c.args.sink.now) [] (told c.loop-row.sink) (c.loop-row.block.items ++ flat_map (feed_row family) rest)) next c.loop-row.invariant.sent in
     record {
-      sent = sends_on (rows_of c.args.store.now c.args.totals.now) (row_text c.args.store.now c.in-Some.key.now (signed_decimal c.in-Some.sum.now))
-          (flat_map (λ row. row_text c.args.store.now row.0 (signed_decimal row.1)) c.next.new.self) (g.K.Sink.written c.args.sink.now) (g.K.Sink.written c.loop-key.sink)
-          (g.K.Sink.written c.put_row.new.sink) c.loop-key.block.items c.put_row.new.block.items so_far row;
-      later = omega (arith, c.loop-key.invariant.later, c.in_ok-put_row.ensures.cause.later);
+      sent = sends_on (flat_map (feed_row family) rows) (feed_row family row) (flat_map (feed_row family) (drop (at + 1) rows)) (told c.args.sink.now) (told c.loop-row.sink) (told c.put_row.new.sink)
+          c.loop-row.block.items c.put_row.new.block.items so_far c.in_ok-put_row.ensures.ok;
+      valid = (subst (AreValid (sums family)) next c.loop-row.invariant.valid).1;
+      later = omega (arith, c.loop-row.invariant.later, c.in_ok-put_row.ensures.cause.later);
     }

@@ -1,14 +1,14 @@
-use Rattle.std.proofs.Common.{[], ◌++◌, ◌≤◌}
-use Rattle.std.specs.Fmt.{signed_decimal}
+use Rattle.std.proofs.Common.{[], ◌++◌, ◌≤◌, drop}
 use Rattle.std.specs.List.{flat_map}
-use Rattle.sb_report.specs.Report.{row_text}
-use Rattle.sb_run.specs.Sending.{Sends}
-use Rattle.sb_run.specs.Totals.{rows_of}
+use Rattle.sb_feed.specs.Jobs.{AreValid}
+use Rattle.sb_run.specs.Blocks.{Sends}
+use Rattle.sb_run.specs.Feed.{feed_row, sums}
 use Rattle.sb_run.proofs.report.put_report.Given as goal
 
-abbrev pub invariant-loop-key : goal.invariant-loop-key
-invariant-loop-key g l = record {
-  sent : Sends (rows_of l.store l.totals) (g.K.Sink.written l.fn.sink) [] (g.K.Sink.written l.sink)
-      (l.block.items ++ flat_map (λ row. row_text l.store row.0 (signed_decimal row.1)) l.key-iterator);
+abbrev pub invariant-loop-row : goal.invariant-loop-row
+invariant-loop-row g l = record {
+  sent : Sends (flat_map (feed_row l.family) l.rows) (g.K.Sink.written l.fn.sink) [] (g.K.Sink.written l.sink)
+      (l.block.items ++ flat_map (feed_row l.family) (drop l.row-index l.rows));
+  valid : AreValid (sums l.family) (drop l.row-index l.rows);
   later : g.K.Sink.faults l.fn.sink ≤ g.K.Sink.faults l.sink;
 }

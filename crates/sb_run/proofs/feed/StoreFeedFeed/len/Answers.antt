@@ -6,4 +6,6 @@ use Rattle.sb_run.proofs.Feeds.{records_valid}
 use Rattle.sb_run.proofs.feed.StoreFeedFeed.len.Goals as goal
 
 pub returns-clause-valid : goal.returns-clause-valid
-returns-clause-valid c = subst (λ feed. AllByRecursion (IsRecord sums) (feed_records feed)) c.self.view_is (records_valid _ c.self.invariant)
+returns-clause-valid c =
+    let feed = c.args.self.now in
+    subst (λ f. AllByRecursion (IsRecord (sums feed)) (feed_records f)) c.self.view_is (records_valid feed _ c.self.invariant)
