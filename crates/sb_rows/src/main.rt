@@ -1,0 +1,53 @@
+//! Whole runs as data: each row of the named files is run through the top call and compared with what it wants.
+#![tactic(auto)]
+
+mod checking;
+mod contents;
+mod reading;
+mod row;
+
+use anyhow::{Context, ensure};
+use checking::agrees;
+use reading::Reader;
+use std::rt::{Env, Files};
+use std::{env, fs};
+
+// Runs the rows of a text, and tells how many differ.
+fn run_rows<R: Print + AllocGlobal>(rt: &R, text: &str) -> anyhow::Result<u64> {
+    let mut differing: u64 = 0;
+    let mut reader = Reader::new(rt.alloc());
+    let mut number: u64 = 0;
+    for line in text.lines() {
+        number = number.saturating_add(1);
+        let read = reader.read_line(line);
+        if let Some(row) = read.context(format_args!("line {number}"))?
+            && !agrees(rt, rt.alloc(), &row)?
+        {
+            differing = differing.saturating_add(1);
+        }
+    }
+    if let Some(row) = reader.finish()?
+        && !agrees(rt, rt.alloc(), &row)?
+    {
+        differing = differing.saturating_add(1);
+    }
+    Ok(differing)
+}
+
+// Runs the rows of the files that the words name.
+fn run_files<R: Env + Files + Print + AllocGlobal>(rt: &R) -> anyhow::Result<u64> {
+    let mut differing: u64 = 0;
+    for name in env::args(rt)?.skip(1) {
+        let text = fs::read_to_string(rt, name.as_str());
+        let text = text.context(format_args!("reading {name}"))?;
+        let rows = run_rows(rt, text.as_str());
+        differing = differing.saturating_add(rows.context(format_args!("{name}"))?);
+    }
+    Ok(differing)
+}
+
+fn main(rt: HostRuntime) -> anyhow::Result<()> {
+    let differing = run_files(&rt)?;
+    ensure!(differing == 0, "{differing} rows differ");
+    Ok(())
+}
