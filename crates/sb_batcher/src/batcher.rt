@@ -1,3 +1,4 @@
+//! Batches of time: the batch of a time, and the first time of a batch.
 ghost use Rattle.std.specs.Prelude.{◌≡◌, ◌<◌};
 ghost use Rattle.sb_batcher.specs.Batches as spec;
 

@@ -1,4 +1,4 @@
-// Times and batches at the ends of batches and of times.
+//! Times and batches at the ends of batches and of times.
 use crate::Batcher;
 use std::test::Fail;
 

@@ -1,4 +1,4 @@
-// Which checked programs may run online.
+//! Which checked programs may run online.
 ghost use Rattle.std.specs.Prelude.{◌≡◌, ◌≢◌, ◌<◌, Some, length, map, slice_get, option_map, option_and_then, IfSome};
 ghost use Rattle.sb_check.specs.Admission as spec;
 ghost use Rattle.sb_check.specs.Answers.{Answers};

@@ -1,3 +1,4 @@
+//! Why a program isn't accepted.
 ghost use Rattle.std.specs.Prelude.{◌≡◌};
 ghost use Rattle.sb_check.specs.declared.check_error.CheckError.TheVariants.{NoMemory};
 

@@ -1,3 +1,4 @@
+//! Checked programs.
 ghost use Rattle.std.specs.Prelude.{◌≡◌, ◌<◌, ◌+◌, length, map, slice_get, Some, Ok, Err, ◌≢◌, OnOk, IfErr, option_map};
 ghost use Rattle.sb_check.specs.Answers.{Answers};
 ghost use Rattle.sb_check.specs.CheckedView.{checked_of};

@@ -1,4 +1,4 @@
-// The comment lines behind a checked program.
+//! The comment lines behind a checked program.
 ghost use Rattle.std.specs.Prelude.{◌≡◌, ◌++◌, codes, decimal, map, IfOk, OnOk, OnErr};
 ghost use Rattle.sb_check.specs.CheckedView.{checked_of};
 ghost use Rattle.sb_check.specs.Comments as spec;

@@ -1,4 +1,4 @@
-// What the statements of a program declare.
+//! What the statements of a program declare.
 ghost use Rattle.std.specs.Prelude.{◌≡◌, ◌≤◌};
 ghost use Rattle.sb_terms.specs.Sizes.{most_leaves};
 ghost use Rattle.sb_check.specs.MonoidText.{monoid_text};

@@ -1,4 +1,4 @@
-// A log's records, and what may be wrong with one.
+//! A log's records, and what may be wrong with one.
 ghost use Rattle.std.specs.Prelude.{◌≡◌, ◌+◌, ◌≤◌, true, map};
 ghost use Rattle.sb_batcher.specs.Batches.{batch_of};
 ghost use Rattle.sb_check.specs.Log.{logged_of, is_batch, are_in_batches, up_to, batch_count, last_batch};

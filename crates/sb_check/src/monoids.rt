@@ -1,4 +1,4 @@
-// Monoids as programs write them, over the values that they take.
+//! Monoids as programs write them, over the values that they take.
 ghost use Rattle.std.specs.Prelude.{◌≡◌, ◌++◌, Ok, codes, decimal, IfOk, OnOk};
 ghost use Rattle.sb_check.specs.MonoidText.{monoid_text};
 ghost use Rattle.sb_check.specs.Stores as spec;

@@ -1,4 +1,4 @@
-// What a name stands for.
+//! What a name stands for.
 ghost use Rattle.std.specs.Prelude.{◌≡◌, map, option_map, is_some, bytes_eq};
 ghost use Rattle.std.specs.List.{list_any};
 ghost use Rattle.sb_check.specs.Declarations.{source_of, service_of, let_of, store_of, declarations_of, streamed_of};

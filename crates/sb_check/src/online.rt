@@ -1,4 +1,4 @@
-// A checked program that may run online.
+//! A checked program that may run online.
 ghost use Rattle.std.specs.Prelude.{true, ◌≡◌};
 ghost use Rattle.sb_check.specs.Admission.{all_commute};
 ghost use Rattle.sb_check.specs.CheckedView.{checked_of};

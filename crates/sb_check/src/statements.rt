@@ -1,4 +1,4 @@
-// Statements: first the names in them, then the name that they declare, then the walk, then the store.
+//! Statements: first the names in them, then the name that they declare, then the walk, then the store.
 ghost use Rattle.std.specs.Prelude.{◌≡◌, IfOk};
 ghost use Rattle.sb_check.specs.Answers.{Leaves};
 ghost use Rattle.sb_check.specs.Declarations as decl;

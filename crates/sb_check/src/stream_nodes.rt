@@ -1,4 +1,4 @@
-// Nodes of streams, each with its flow, its type and its width, or with what is wrong with it.
+//! Nodes of streams, each with its flow, its type and its width, or with what is wrong with it.
 ghost use Rattle.std.specs.Prelude.{◌≡◌, ◌≤◌, ◌*◌, option_map, IfOk, IfNone};
 ghost use Rattle.sb_terms.specs.Sizes.{most_leaves};
 ghost use Rattle.sb_check.specs.Declarations.{service_of, streamed_of};

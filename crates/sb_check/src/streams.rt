@@ -1,4 +1,4 @@
-// The walk of a stream: head and stages from the left, and in each stage its expression before the stage.
+//! The walk of a stream: head and stages from the left, and in each stage its expression before the stage.
 ghost use Rattle.std.specs.Prelude.{◌≡◌};
 ghost use Rattle.sb_check.specs.Declarations.{declarations_of, streamed_of};
 ghost use Rattle.sb_check.specs.Names.{service_named};

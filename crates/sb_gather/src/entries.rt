@@ -1,4 +1,4 @@
-// Lists of entries in rising order, and how sets and maps add to them in place.
+//! Lists of entries in rising order, and how sets and maps add to them in place.
 ghost use Rattle.std.specs.Prelude.{◌≡◌, List, IfOk, OnOk, OnErr};
 ghost use Rattle.std.specs.List.{AllByRecursion};
 ghost use Rattle.sb_gather.specs.Entries.{AreEntries, entry_added, entries_added};

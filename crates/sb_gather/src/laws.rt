@@ -1,4 +1,4 @@
-// Laws of the definitions, each on a function that does nothing.
+//! Laws of the definitions, each on a function that does nothing.
 ghost use Rattle.std.specs.Prelude.{◌≡◌, ◌↔◌, ◌⊎◌, ℕ, ℤ, List, ◌++◌, take, Contains, IsPermutation};
 ghost use Rattle.std.specs.FinMap.{find};
 ghost use Rattle.sb_laws.specs.Sums.{both_sums};

@@ -1,4 +1,4 @@
-// Maps added key by key.
+//! Maps added key by key.
 ghost use Rattle.std.specs.Prelude.{◌≡◌, Ok, []};
 ghost use Rattle.sb_gather.specs.Entries.{AreEntries};
 ghost use Rattle.sb_gather.specs.Maps.{by_key, values_added, maps_added};

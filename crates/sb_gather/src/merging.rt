@@ -1,4 +1,4 @@
-// Two lists of entries in rising order merged in place.
+//! Two lists of entries in rising order merged in place.
 ghost use Rattle.std.specs.Prelude.{◌≡◌, ◌<◌, ◌≤◌, [], Some, slice_get, List, length, take, drop, IfOk, OnOk, OnErr};
 ghost use Rattle.std.specs.List.{AllByRecursion};
 ghost use Rattle.sb_gather.specs.Entries.{AreEntries, entry_added, entries_added};

@@ -1,4 +1,4 @@
-// Pairs added part by part.
+//! Pairs added part by part.
 ghost use Rattle.std.specs.Prelude.{◌≡◌};
 
 use sb_laws::{Commuting, Monoid, NoMemory, Semigroup, Undo};

@@ -1,4 +1,4 @@
-// Two ranked lists merged into the first k of both.
+//! Two ranked lists merged into the first k of both.
 ghost use Rattle.std.specs.Prelude.{◌≡◌, ◌<◌, ◌≤◌, ◌+◌, ◌++◌, true, false, [], List, length, take, min, option_to_list, IfOk, OnOk, OnErr, MatchOption};
 ghost use Rattle.std.specs.Vec.{vec_capacity};
 ghost use Rattle.sb_gather.specs.Merges.{IsNext, IsNotBefore};

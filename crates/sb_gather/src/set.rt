@@ -1,4 +1,4 @@
-// Sets under union.
+//! Sets under union.
 ghost use Rattle.std.specs.Prelude.{◌≡◌, Ok, [], IsOk};
 ghost use Rattle.sb_gather.specs.Entries.{AreEntries};
 ghost use Rattle.sb_gather.specs.Maps.{left_of, union, AnyKey};

@@ -1,4 +1,4 @@
-// The first k of scored items.
+//! The first k of scored items.
 ghost use Rattle.std.specs.Prelude.{◌≡◌, ◌<◌, ◌≤◌, ◌↔◌, ◌+◌, ℕ, ℤ, Ok, [], ◌∷◌, ◌++◌, List, length, take, option_to_list, IsSome, IfSome, IfOk, OnOk, OnErr, MatchOption};
 ghost use Rattle.std.specs.List.{insert};
 ghost use Rattle.std.specs.Vec.{vec_len, vec_capacity};

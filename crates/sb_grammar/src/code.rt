@@ -1,4 +1,4 @@
-// The codes of syntax errors.
+//! The codes of syntax errors.
 
 /// Why a text is no program's.
 #[derive(Clone, Copy, Debug, PartialEq, Eq)]

@@ -1,4 +1,4 @@
-// Expressions as trees, from the loosest operator to the tightest.
+//! Expressions as trees, from the loosest operator to the tightest.
 use crate::programs::Many;
 use sb_text::Text;
 use sqlite_items::Boxed;

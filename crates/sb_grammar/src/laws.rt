@@ -1,4 +1,4 @@
-// Laws of the grammar, each on a function that does nothing.
+//! Laws of the grammar, each on a function that does nothing.
 ghost use Rattle.std.specs.Prelude.{◌≡◌, ℕ, List};
 ghost use Rattle.sb_tokens.specs.Token.{Token};
 ghost use Rattle.sb_grammar.specs.declared.code.Code.{Code};

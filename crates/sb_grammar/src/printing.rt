@@ -1,4 +1,4 @@
-// Programs as texts.
+//! Programs as texts.
 ghost use Rattle.std.specs.Prelude.{◌≡◌, ◌++◌, List, IfOk, OnOk, OnErr};
 ghost use Rattle.sb_tokens.specs.Token.{Token};
 ghost use Rattle.sb_grammar.specs.Program.{IsProgram};

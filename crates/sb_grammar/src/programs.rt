@@ -1,4 +1,4 @@
-// Programs, statements, streams and types as trees.
+//! Programs, statements, streams and types as trees.
 use crate::expressions::{Expr, Scalar};
 use sb_text::Text;
 use sqlite_items::{Boxed, Items};

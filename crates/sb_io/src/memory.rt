@@ -1,4 +1,4 @@
-// A shelf and a sink in memory, which fail at the calls that they are told.
+//! A shelf and a sink in memory, which fail at the calls that they are told.
 ghost use Rattle.std.specs.Prelude.{◌≡◌, ◌≢◌, ◌≤◌, ℕ, List, [], ◌∷◌, ◌++◌, Some, OnOk, OnErr, MatchOption};
 ghost use Rattle.sb_io.specs.Shelf.{Missing, Holds, HasShelfCause};
 ghost use Rattle.sb_io.specs.Memory.{file_in, times, refused, is_due};

@@ -1,4 +1,4 @@
-// Files by name: what a shelf tells of them, and the cause of each fault.
+//! Files by name: what a shelf tells of them, and the cause of each fault.
 ghost use Rattle.std.specs.Prelude.{ℕ, List};
 ghost use Rattle.sb_io.specs.Shelf.{Content, IsFetched, Fetches, HasShelfCause};
 

@@ -1,4 +1,4 @@
-// A receiver of bytes, and the cause of each fault.
+//! A receiver of bytes, and the cause of each fault.
 ghost use Rattle.std.specs.Prelude.{ℕ, List, Option};
 ghost use Rattle.sb_io.specs.Sink.{Puts, HasSinkCause};
 

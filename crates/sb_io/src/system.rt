@@ -1,4 +1,4 @@
-// The files and the output of the operating system. Nothing is known of what they hold.
+//! The files and the output of the operating system. Nothing is known of what they hold.
 ghost use Rattle.std.specs.Prelude.{None};
 ghost use Rattle.sb_io.specs.Shelf.{Untold};
 

@@ -1,4 +1,4 @@
-// Elements added in place, with what takes an addition back.
+//! Elements added in place, with what takes an addition back.
 ghost use Rattle.std.specs.Prelude.{◌≡◌, ◌≤◌, [], List, length, drop, IfOk, OnOk, OnErr};
 ghost use Rattle.std.specs.List.{AllByRecursion};
 ghost use Rattle.sb_gather.specs.Maps.{by_key};

@@ -1,4 +1,4 @@
-// The elements of the monoids of any text.
+//! The elements of the monoids of any text.
 use crate::boxed::Boxed;
 use crate::many::Many;
 use sb_gather::{Keys, Scored};

@@ -1,4 +1,4 @@
-// A box that can be emptied and filled again.
+//! A box that can be emptied and filled again.
 ghost use Rattle.std.specs.Prelude.{◌≡◌, IfOk};
 
 use sb_laws::NoMemory;

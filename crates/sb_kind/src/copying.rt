@@ -1,4 +1,4 @@
-// Copies of elements.
+//! Copies of elements.
 ghost use Rattle.std.specs.Prelude.{◌≡◌, IfOk};
 
 use crate::agg::{Agg, Tops};

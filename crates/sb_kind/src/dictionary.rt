@@ -1,4 +1,4 @@
-// Kinds as dictionaries: any kind, and those that commute.
+//! Kinds as dictionaries: any kind, and those that commute.
 ghost use Rattle.std.specs.Prelude.{◌≡◌, ◌↔◌, true, IsSome, IfSome};
 ghost use Rattle.sb_kind.specs.Elements.{IsOf, plus};
 ghost use Rattle.sb_kind.specs.KindView.{monoid_of};

@@ -1,4 +1,4 @@
-// Sets of values, and the entries of maps by their keys.
+//! Sets of values, and the entries of maps by their keys.
 ghost use Rattle.std.specs.Prelude.{◌≡◌, IsOk};
 ghost use Rattle.sb_gather.specs.Maps.{AnyKey, left_of, by_key};
 ghost use Rattle.sb_kind.specs.Elements.{val_cmp};

@@ -1,4 +1,4 @@
-// The monoid that a text names.
+//! The monoid that a text names.
 ghost use Rattle.std.specs.Prelude.{◌≡◌, ◌↔◌, IsSome, IsTrue, IfOk, IfSome};
 ghost use Rattle.sb_kind.specs.KindView.{monoid_of};
 ghost use Rattle.sb_kind.specs.Monoids.{monoid_in, IsWithin, commutes, tops, sketches, registers};

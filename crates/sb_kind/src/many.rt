@@ -1,4 +1,4 @@
-// A list that a type which leads back to itself can hold; elsewhere `sb_laws::Items` is the same.
+//! A list that a type which leads back to itself can hold; elsewhere `sb_laws::Items` is the same.
 ghost use Rattle.std.specs.Prelude.{◌≡◌, [], length};
 
 use std::alloc::Global;

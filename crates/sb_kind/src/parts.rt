@@ -1,4 +1,4 @@
-// What an element holds. Each call gives the empty part where the element is of another variant.
+//! What an element holds. Each call gives the empty part where the element is of another variant.
 ghost use Rattle.std.specs.Prelude.{◌≡◌, pos};
 ghost use Rattle.sb_kind.specs.Elements.{number_in, values_in, scored_in, cells_in, registers_in, left_in, right_in, entries_in};
 ghost use Rattle.sb_kind.specs.declared.agg.Agg.{Pair, Sum};

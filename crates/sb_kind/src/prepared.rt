@@ -1,4 +1,4 @@
-// The element that one value gives.
+//! The element that one value gives.
 ghost use Rattle.std.specs.Prelude.{◌≡◌, [], ◌∷◌, IfOk};
 ghost use Rattle.sb_gather.specs.Tops.{by_rank, IsTop};
 ghost use Rattle.sb_kind.specs.Elements.{IsOf, text_cmp};

@@ -1,4 +1,4 @@
-// Elements read from their texts.
+//! Elements read from their texts.
 ghost use Rattle.std.specs.Prelude.{◌≡◌, Some, IfOk, IfSome, option_map};
 ghost use Rattle.sb_types.specs.TyView.{type_of};
 ghost use Rattle.sb_kind.specs.ElementText.{element_text};

@@ -1,4 +1,4 @@
-// Lists that are in order.
+//! Lists that are in order.
 ghost use Rattle.std.specs.Prelude.{◌≡◌};
 ghost use Rattle.sb_kind.specs.Read.{may_precede, is_sorted};
 

@@ -1,4 +1,4 @@
-// Additions taken back.
+//! Additions taken back.
 ghost use Rattle.std.specs.Prelude.{◌≡◌, List};
 ghost use Rattle.sb_kind.specs.KindView.{monoid_of};
 ghost use Rattle.sb_kind.specs.Monoids.{concats, sets, tops};

@@ -1,4 +1,4 @@
-// What takes an addition back.
+//! What takes an addition back.
 ghost use Rattle.std.specs.Prelude.{◌≡◌};
 ghost use Rattle.sb_kind.specs.Undoing.{kept_in, length_in, key_steps, item_steps, first_in, second_in, entry_steps};
 

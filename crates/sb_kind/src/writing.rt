@@ -1,4 +1,4 @@
-// Elements as texts.
+//! Elements as texts.
 ghost use Rattle.std.specs.Prelude.{◌≡◌, ◌==◌, [], ◌++◌, if◌then◌else◌, OnOk, OnErr, codes, length, take, map};
 ghost use Rattle.std.specs.Fmt.{decimal};
 ghost use Rattle.hex.specs.Hex.{encode_lower};

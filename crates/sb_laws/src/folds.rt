@@ -1,4 +1,4 @@
-// Sums of lists by a dictionary: from left to right, by halves, and in any order.
+//! Sums of lists by a dictionary: from left to right, by halves, and in any order.
 ghost use Rattle.std.specs.Prelude.{◌≡◌, ◌<◌, ◌≤◌, List, length, take, drop, IsPermutation, IfOk, Some};
 ghost use Rattle.std.specs.List.{AllByRecursion, flat_map};
 ghost use Rattle.std.specs.Vec.Iter.{into_iter_items};

@@ -1,4 +1,4 @@
-// A list of elements as contracts see it.
+//! A list of elements as contracts see it.
 ghost use Rattle.std.specs.Prelude.{◌≡◌, ◌↔◌, [], ◌++◌, length, take, IsTrue, IfOk, OnOk, OnErr};
 
 use crate::{Key, NoMemory};

@@ -1,4 +1,4 @@
-// Keys of sets, maps and stores.
+//! Keys of sets, maps and stores.
 ghost use Rattle.std.specs.Prelude.{◌≡◌, IfOk};
 ghost use Rattle.std.specs.FinMap.{IsAntisymmetric};
 

@@ -1,5 +1,5 @@
-// Dictionaries with their laws: semigroups, monoids and commuting ones. The terms are those of Algebird
-// (https://github.com/twitter/algebird) and of Summingbird (PVLDB 7(13), 2014).
+//! Dictionaries with their laws: semigroups, monoids and commuting ones. The terms are those of Algebird
+//! (https://github.com/twitter/algebird) and of Summingbird (PVLDB 7(13), 2014).
 ghost use Rattle.std.specs.Prelude.{◌≡◌, ◌↔◌, IsTrue, IfOk, OnOk, OnErr};
 
 use std::alloc::{AllocError, Global};

@@ -1,4 +1,4 @@
-// Dictionaries whose plus can be taken back.
+//! Dictionaries whose plus can be taken back.
 ghost use Rattle.std.specs.Prelude.{◌≡◌, IfOk, OnOk, OnErr};
 
 use crate::{NoMemory, Semigroup};

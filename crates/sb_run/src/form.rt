@@ -1,4 +1,4 @@
-// Programs of the served form: which they are, and the one that a tree is of.
+//! Programs of the served form: which they are, and the one that a tree is of.
 ghost use Rattle.std.specs.Prelude.{◌≡◌, ◌&&◌, ℤ, true, pos, nat_lt, int_lt, unsigned_abs, map, length, IfOk, IfSome, Some};
 ghost use Rattle.std.specs.List.{list_all, list_any};
 ghost use Rattle.std.specs.Str.{bytes_eq};

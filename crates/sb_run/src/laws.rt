@@ -1,4 +1,4 @@
-// Laws of the definitions, each on a function that does nothing.
+//! Laws of the definitions, each on a function that does nothing.
 ghost use Rattle.std.specs.Prelude.{ℤ, List};
 ghost use Rattle.sb_report.specs.declared.script.Ask.{Ask};
 ghost use Rattle.sb_run.specs.Run.{Run};

@@ -1,4 +1,4 @@
-// The parts of a tree of the served form.
+//! The parts of a tree of the served form.
 ghost use Rattle.std.specs.Prelude.{◌≡◌, [], ◌∷◌, List, ℕ, Some, IfSome, option_map, option_copied};
 ghost use Rattle.sb_grammar.specs.declared.expressions.Add.{Add};
 ghost use Rattle.sb_grammar.specs.declared.expressions.Conj.{Conj};

@@ -1,4 +1,4 @@
-// What a program of the served form says.
+//! What a program of the served form says.
 ghost use Rattle.std.specs.Prelude.{◌≡◌, map, IfOk};
 ghost use Rattle.sb_run.specs.Views.{field_view};
 

@@ -1,4 +1,4 @@
-// Lists joined one behind the other.
+//! Lists joined one behind the other.
 ghost use Rattle.std.specs.Prelude.{◌≡◌, ◌++◌, [], take, Ok};
 
 use sb_laws::{Items, Key, Monoid, NoMemory, Semigroup, Undo};

@@ -1,4 +1,4 @@
-// The first and the last of what came.
+//! The first and the last of what came.
 ghost use Rattle.std.specs.Prelude.{◌≡◌, Ok, IsOk};
 
 use sb_laws::{Key, NoMemory, Semigroup, Undo};

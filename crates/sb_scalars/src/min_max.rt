@@ -1,4 +1,4 @@
-// The lesser and the greater of two numbers.
+//! The lesser and the greater of two numbers.
 ghost use Rattle.std.specs.Prelude.{◌≡◌, FitsSigned, Ok, IsOk};
 ghost use Rattle.std.specs.Int.{w64, int_min, int_max};
 

@@ -1,4 +1,4 @@
-// Sums of i64 that wrap around.
+//! Sums of i64 that wrap around.
 ghost use Rattle.std.specs.Prelude.{◌≡◌, Ok, pos, IsOk};
 ghost use Rattle.std.specs.Int.{w64, int_wrapping_add};
 

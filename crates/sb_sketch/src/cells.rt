@@ -1,4 +1,4 @@
-// Lists of cells that contracts see as lists of numbers.
+//! Lists of cells that contracts see as lists of numbers.
 ghost use Rattle.std.specs.Prelude.{◌≡◌, ◌<◌, length, slice_get, Some};
 
 /// The cell at a place.

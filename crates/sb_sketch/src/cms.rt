@@ -1,4 +1,4 @@
-// Count-min sketches (Cormode and Muthukrishnan, Journal of Algorithms 55(1), 2005).
+//! Count-min sketches (Cormode and Muthukrishnan, Journal of Algorithms 55(1), 2005).
 ghost use Rattle.std.specs.Prelude.{◌≡◌, ◌<◌, ◌≤◌, ◌↔◌, ◌+◌, ◌*◌, Ok, length, IsOk, IsSome, IfSome, IfOk};
 ghost use Rattle.sb_sketch.specs.Cells.{counts_added, zeros};
 ghost use Rattle.sb_sketch.specs.Cms.{Shape, AreCounts, cell_of, counts_of};

@@ -1,4 +1,4 @@
-// The numbers that SHA-256 (FIPS 180-4) gives of items.
+//! The numbers that SHA-256 (FIPS 180-4) gives of items.
 ghost use Rattle.std.specs.Prelude.{◌≡◌, ◌<◌, ◌^◌, ◌∷◌, take};
 ghost use Rattle.std.specs.Int.{w64, from_be_bytes};
 ghost use Rattle.sb_sketch.specs.Hash.{first_word};

@@ -1,4 +1,4 @@
-// HyperLogLog (Flajolet, Fusy, Gandouet and Meunier, AofA 2007).
+//! HyperLogLog (Flajolet, Fusy, Gandouet and Meunier, AofA 2007).
 ghost use Rattle.std.specs.Prelude.{◌≡◌, ◌<◌, ◌≤◌, ◌↔◌, ◌+◌, ◌-◌, ◌%◌, ◌^◌, ℕ, Ok, length, max, IsOk, IsSome, IfSome, IfOk};
 ghost use lib.Count.{count_leading_zeros};
 ghost use Rattle.sb_sketch.specs.Cells.{greatest_of_both, zeros};

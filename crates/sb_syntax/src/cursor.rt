@@ -1,4 +1,4 @@
-// A place among the tokens of a text.
+//! A place among the tokens of a text.
 ghost use Rattle.std.specs.Prelude.{◌≡◌, option_map, IfOk};
 ghost use Rattle.sb_tokens.specs.Keyword.{keyword_text};
 ghost use Rattle.sb_tokens.specs.Lexed.{Lexed, lexed};

@@ -1,4 +1,4 @@
-// Why a rule of the grammar stops.
+//! Why a rule of the grammar stops.
 ghost use Rattle.std.specs.Prelude.{◌≡◌};
 ghost use Rattle.sb_syntax.specs.declared.fault.Fault.TheVariants.{NoMemory};
 

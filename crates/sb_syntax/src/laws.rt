@@ -1,4 +1,4 @@
-// Laws of texts and programs, each on a function that does nothing.
+//! Laws of texts and programs, each on a function that does nothing.
 ghost use Rattle.std.specs.Prelude.{◌⊎◌, List, ℕ};
 ghost use Rattle.sb_grammar.specs.declared.code.Code.{Code};
 ghost use Rattle.sb_grammar.specs.declared.programs.Program.{Program};

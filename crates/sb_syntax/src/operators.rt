@@ -1,4 +1,4 @@
-// The operators between operands.
+//! The operators between operands.
 ghost use Rattle.std.specs.Prelude.{◌≡◌, option_map};
 ghost use Rattle.sb_tokens.specs.View.{token_view};
 ghost use Rattle.sb_syntax.specs.Expressions as spec;

@@ -1,4 +1,4 @@
-// The program of a text, or its first wrong token.
+//! The program of a text, or its first wrong token.
 ghost use Rattle.std.specs.Prelude.{◌≡◌, ◌⊎◌, ℕ, Err, IfOk, IfErr};
 ghost use Rattle.sb_grammar.specs.Program.{IsTextOf, FirstFault};
 ghost use Rattle.sb_grammar.specs.declared.code.Code.{Code};

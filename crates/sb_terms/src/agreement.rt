@@ -1,4 +1,4 @@
-// Types that agree, and their joins.
+//! Types that agree, and their joins.
 ghost use Rattle.std.specs.Prelude.{◌≡◌, option_map, IfOk, IfSome};
 ghost use Rattle.sb_terms.specs.Agreement as spec;
 ghost use Rattle.sb_types.specs.TyView.{type_of, view_fields};

@@ -1,4 +1,4 @@
-// Copies of types.
+//! Copies of types.
 ghost use Rattle.std.specs.Prelude.{◌≡◌, IfOk};
 
 use sb_text::NoMemory;

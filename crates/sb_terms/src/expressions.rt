@@ -1,4 +1,4 @@
-// The walk of an expression: parts from the left before the whole.
+//! The walk of an expression: parts from the left before the whole.
 ghost use Rattle.std.specs.Prelude.{◌≡◌, map};
 ghost use Rattle.sb_terms.specs.Expressions as spec;
 ghost use Rattle.sb_terms.specs.Nodes.{typed_of};

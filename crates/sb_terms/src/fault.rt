@@ -1,3 +1,4 @@
+//! Why a statement isn't accepted.
 ghost use Rattle.std.specs.Prelude.{◌≡◌};
 ghost use Rattle.sb_terms.specs.declared.fault.Fault.TheVariants.{NoMemory};
 

@@ -1,3 +1,4 @@
+//! Checked streams.
 use crate::term::Term;
 use sqlite_items::Boxed;
 

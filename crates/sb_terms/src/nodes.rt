@@ -1,4 +1,4 @@
-// Nodes of expressions, each with its type, or with what is wrong with it.
+//! Nodes of expressions, each with its type, or with what is wrong with it.
 ghost use Rattle.std.specs.Prelude.{◌≡◌, map, option_map, IfOk};
 ghost use Rattle.sb_terms.specs.declared.term.Term.TheVariants.{If, Two};
 ghost use Rattle.sb_terms.specs.Nodes as spec;

@@ -1,4 +1,4 @@
-// How large types are, and how much their values may hold.
+//! How large types are, and how much their values may hold.
 ghost use Rattle.std.specs.Prelude.{◌≡◌, min};
 ghost use Rattle.sb_terms.specs.Sizes as spec;
 ghost use Rattle.sb_types.specs.TyView.{type_of, view_fields};

@@ -1,4 +1,4 @@
-// The types of expressions, by the types of their parts. None is where there is no type.
+//! The types of expressions, by the types of their parts. None is where there is no type.
 ghost use Rattle.std.specs.Prelude.{◌≡◌, map, option_map, IfOk};
 ghost use Rattle.sb_terms.specs.Tables as spec;
 ghost use Rattle.sb_types.specs.TyView.{type_of, view_fields};

@@ -1,3 +1,4 @@
+//! Checked expressions.
 use sb_types::Val;
 use sqlite_items::{Boxed, Items};
 

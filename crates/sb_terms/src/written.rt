@@ -1,4 +1,4 @@
-// Types as programs write them.
+//! Types as programs write them.
 ghost use Rattle.std.specs.Prelude.{◌≡◌, IfOk};
 ghost use Rattle.sb_terms.specs.Written as spec;
 ghost use Rattle.sb_types.specs.TyView.{type_of};

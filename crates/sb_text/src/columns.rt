@@ -1,4 +1,4 @@
-// The columns of a line, one after the other.
+//! The columns of a line, one after the other.
 ghost use Rattle.std.specs.Prelude.{◌≡◌, ◌==◌, ◌≤◌, filter, length};
 ghost use Rattle.sb_text.specs.Columns.{columns_of, pieces};
 

@@ -1,4 +1,4 @@
-// Canonical decimals, read and written.
+//! Canonical decimals, read and written.
 ghost use Rattle.std.specs.Prelude.{◌≡◌, ℕ, ℤ, ◌-◌, ◌^◌, ◌<◌, ◌≤◌, ◌++◌, pos, Some, OnOk, OnErr, IfSome, FitsSigned, decimal, option_map, option_and_then};
 ghost use Rattle.std.specs.Int.{w64};
 ghost use Rattle.std.specs.Fmt.{signed_decimal};

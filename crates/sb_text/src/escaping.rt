@@ -1,4 +1,4 @@
-// The escaped form of texts in reports, scripts and transcripts.
+//! The escaped form of texts in reports, scripts and transcripts.
 ghost use Rattle.std.specs.Prelude.{◌≡◌, ℕ, ◌<◌, List, ◌++◌, Some, None, IsUtf8, OnOk, OnErr, IfOk, IfSome, IfNone, MatchOption, length, take, option_map};
 ghost use Rattle.sb_text.specs.Escape.{is_plain, hex_digit, escaped_byte, escaped, hex_value, byte_of_digits, after_percent, bytes_unescaped, unescaped, text_unescaped};
 ghost use Rattle.sb_text.specs.Field.{onto_text};

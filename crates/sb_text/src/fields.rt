@@ -1,4 +1,4 @@
-// The form of texts in the fields of logs and services.
+//! The form of texts in the fields of logs and services.
 ghost use Rattle.std.specs.Prelude.{◌≡◌, ℕ, List, ◌++◌, IsUtf8, OnOk, OnErr, IfOk, IfSome, Some, length, take, option_map};
 ghost use Rattle.sb_text.specs.Field.{field_escaped_byte, field_escaped, field_unescaped, field_text, after_backslash};
 

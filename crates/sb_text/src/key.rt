@@ -1,4 +1,4 @@
-// Texts as keys.
+//! Texts as keys.
 use crate::Text;
 use sb_laws::{Key, NoMemory};
 use std::alloc::Global;

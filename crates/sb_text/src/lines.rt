@@ -1,4 +1,4 @@
-// The lines of a text, one after the other.
+//! The lines of a text, one after the other.
 ghost use Rattle.std.specs.Prelude.{◌≡◌};
 ghost use Rattle.sb_text.specs.Lines.{lines_of};
 

@@ -1,4 +1,4 @@
-// Texts as they are printed.
+//! Texts as they are printed.
 ghost use Rattle.std.specs.Prelude.{◌≡◌, true, IsUtf8, IfOk};
 ghost use Rattle.std.specs.Fmt.{signed_decimal};
 ghost use Rattle.std.specs.List.{list_all};

@@ -1,4 +1,4 @@
-// Sets of numbers, printed as their maximal ranges.
+//! Sets of numbers, printed as their maximal ranges.
 ghost use Rattle.std.specs.Prelude.{◌≡◌, ◌↔◌, ℕ, ◌+◌, ◌-◌, ◌^◌, ◌<◌, ◌≤◌, List, [], ◌∷◌, ◌++◌, Some, None, IsTrue, OnOk, OnErr, IfOk, IfSome, MatchOption, Contains, length, take, insert, option_map};
 ghost use Rattle.std.specs.List.{AllByRecursion};
 ghost use Rattle.sb_text.specs.Columns.{pieces};

@@ -1,4 +1,4 @@
-// Bytes split at the first separator.
+//! Bytes split at the first separator.
 ghost use Rattle.std.specs.Prelude.{◌≡◌, ◌++◌, ◌∷◌, MatchOption};
 ghost use Rattle.sb_text.specs.Columns.{Lacks};
 

@@ -1,4 +1,4 @@
-// Texts in UTF-8, their order and their hash.
+//! Texts in UTF-8, their order and their hash.
 ghost use Rattle.std.specs.Prelude.{◌≡◌, ◌↔◌, IsUtf8, IsSome, IfSome, IfOk, string_bytes};
 
 use std::alloc::{AllocError, Global};

@@ -1,4 +1,4 @@
-// The token at the front of a text.
+//! The token at the front of a text.
 ghost use Rattle.std.specs.Prelude.{◌≡◌, ◌<◌, ◌≤◌, length, option_map, IfSome};
 ghost use Rattle.sb_tokens.specs.Front.{first_symbol, first_token};
 ghost use Rattle.sb_tokens.specs.Token.{spelling, symbol};

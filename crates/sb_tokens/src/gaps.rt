@@ -1,4 +1,4 @@
-// What stands between tokens: blanks and comments.
+//! What stands between tokens: blanks and comments.
 ghost use Rattle.std.specs.Prelude.{◌≡◌, ℕ, ◌+◌, ◌≤◌, drop, length};
 ghost use Rattle.sb_tokens.specs.Lexed.{is_blank, lexed_from, BeginsNoGap};
 

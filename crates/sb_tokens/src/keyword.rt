@@ -1,4 +1,4 @@
-// The keywords of programs.
+//! The keywords of programs.
 ghost use Rattle.std.specs.Prelude.{◌≡◌, Some, IfOk, IfSome, bytes_eq};
 ghost use Rattle.std.specs.List.{find};
 ghost use Rattle.sb_tokens.specs.Keyword.{keyword_text};

@@ -1,4 +1,4 @@
-// Quoted texts.
+//! Quoted texts.
 ghost use Rattle.std.specs.Prelude.{◌≡◌, ◌+◌, ◌<◌, ◌≤◌, true, Some, is_some, length, option_map, IfOk, IfSome};
 ghost use Rattle.std.specs.List.{flat_map};
 ghost use Rattle.std.specs.Str.{is_utf8};

@@ -1,4 +1,4 @@
-// The symbols of programs, the longest first.
+//! The symbols of programs, the longest first.
 ghost use Rattle.std.specs.Prelude.{◌≡◌, ◌==◌, ◌<◌, ◌≤◌, length, IfSome};
 ghost use Rattle.std.specs.List.{find, starts_with};
 ghost use Rattle.sb_tokens.specs.Symbol.{symbol_text};

@@ -1,4 +1,4 @@
-// One token, and where it stands.
+//! One token, and where it stands.
 ghost use Rattle.std.specs.Prelude.{◌≡◌, true, Some, is_some};
 ghost use Rattle.std.specs.Str.{is_utf8};
 ghost use Rattle.sb_tokens.specs.Word.{is_name};

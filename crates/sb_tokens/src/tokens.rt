@@ -1,4 +1,4 @@
-// The tokens of a text, one after the other.
+//! The tokens of a text, one after the other.
 ghost use Rattle.std.specs.Prelude.{◌≡◌, ◌≤◌, None, IfOk, IfErr, IfSome, All, drop, length, map};
 
 use crate::Token;

@@ -1,4 +1,4 @@
-// Words and numbers: what letters and digits spell.
+//! Words and numbers: what letters and digits spell.
 ghost use Rattle.std.specs.Prelude.{◌≡◌, ◌<◌, ◌≤◌, true, length, option_map, get_or, IfSome};
 ghost use Rattle.std.specs.Char.{is_ascii_digit};
 ghost use Rattle.std.specs.List.{prefix_len, take_while};

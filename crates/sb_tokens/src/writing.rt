@@ -1,4 +1,4 @@
-// Tokens as they are written. The tokens that are written with a blank behind each are the tokens of that text.
+//! Tokens as they are written. The tokens that are written with a blank behind each are the tokens of that text.
 ghost use Rattle.std.specs.Prelude.{◌≡◌, ◌++◌, OnOk, OnErr, take, length};
 ghost use Rattle.sb_tokens.specs.Quote.{quoted_byte};
 ghost use Rattle.sb_tokens.specs.Token.{keyword, name, int, text, symbol, spelling};

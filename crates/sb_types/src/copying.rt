@@ -1,4 +1,4 @@
-// Copies of types and values.
+//! Copies of types and values.
 ghost use Rattle.std.specs.Prelude.{◌≡◌, IfOk};
 
 use crate::values::Val;

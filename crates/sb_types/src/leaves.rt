@@ -1,4 +1,4 @@
-// Values without parts at the front of the bytes.
+//! Values without parts at the front of the bytes.
 ghost use Rattle.std.specs.Prelude.{◌≡◌, Some, None, IfOk, MatchOption, option_map};
 ghost use Rattle.sb_types.specs.Read.{ends_part, leaf, after_leaf, expect, truth_of, front_of, value_front};
 ghost use Rattle.sb_types.specs.ValueType.{ints, texts, truths};

@@ -1,4 +1,4 @@
-// The order of values.
+//! The order of values.
 ghost use Rattle.std.specs.Prelude.{◌≡◌};
 ghost use Rattle.sb_types.specs.Order.{value_cmp, values_cmp, variant_of};
 ghost use Rattle.sb_types.specs.ValView.{value_of, view_values};

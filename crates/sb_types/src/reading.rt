@@ -1,4 +1,4 @@
-// Values of a type, read from their texts.
+//! Values of a type, read from their texts.
 ghost use Rattle.std.specs.Prelude.{◌≡◌, List, ℕ, ◌++◌, Some, None, IfOk, IfSome, option_map, if◌then◌else◌};
 ghost use Rattle.sb_types.specs.Key.{IsKeyOf, is_key};
 ghost use Rattle.sb_types.specs.Read.{IsEnd, front_of, parts_of, next_front, further_front, parts_front, list_front, value_front, fields_front, value_read};

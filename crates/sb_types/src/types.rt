@@ -1,4 +1,4 @@
-// The types of programs.
+//! The types of programs.
 use sb_text::Text;
 use sqlite_items::{Boxed, Items};
 

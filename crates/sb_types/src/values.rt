@@ -1,4 +1,4 @@
-// The values of programs and the records of logs.
+//! The values of programs and the records of logs.
 use sb_text::Text;
 use sqlite_items::{Boxed, Items};
 

@@ -1,4 +1,4 @@
-// Values as texts.
+//! Values as texts.
 ghost use Rattle.std.specs.Prelude.{◌≡◌, ◌==◌, [], ◌++◌, if◌then◌else◌, OnOk, OnErr, codes, length, take};
 ghost use Rattle.sb_types.specs.Text.{value_text, parts_text};
 ghost use Rattle.sb_types.specs.ValView.{value_of, view_values};

@@ -1,9 +1,10 @@
-// Sums through the bounds of dictionaries alone.
+//! Sums through the bounds of dictionaries alone.
 ghost use Rattle.std.specs.Prelude.{◌≡◌, ◌∷◌, [], Some, IfOk};
 
 use sb_laws::{Commuting, Monoid, NoMemory, Semigroup, Undo, fold_list, regroup};
 use std::alloc::Global;
 
+/// A list of one element.
 pub fn single<T: Drop>(alloc: Global, item: T) -> Result<Vec<T>, NoMemory>
     ensures { IfOk result (λ list. list.items ≡ item ∷ []) }
 {

@@ -1,4 +1,4 @@
-// Cuts and keys on given numbers.
+//! Cuts and keys on given numbers.
 use sb_feed::{Cut, KeyBytes};
 use sb_laws::{Key, NoMemory};
 use sb_text::Text;

@@ -1,4 +1,4 @@
-// A dictionary that may refuse.
+//! A dictionary that may refuse.
 ghost use Rattle.std.specs.Prelude.{◌≡◌};
 
 use sb_laws::{Commuting, NoMemory, Semigroup, Undo};

@@ -1,4 +1,4 @@
-// Kinds of any text at work: sums of prepared values, printed and read again.
+//! Kinds of any text at work: sums of prepared values, printed and read again.
 use crate::bounds::regrouped;
 use sb_kind::{Agg, Kind, KindM, OnlineM, commutes, prepare, read, text};
 use sb_laws::{NoMemory, Semigroup};

@@ -1,4 +1,4 @@
-// Shelves and sinks, over memory and over the operating system.
+//! Shelves and sinks, over memory and over the operating system.
 use sb_io::{Fetched, FsShelf, MemShelf, MemSink, Shelf, ShelfError, Sink, SinkError, StdSink};
 use std::alloc::Global;
 use std::fs;

@@ -1,4 +1,4 @@
-// Texts of programs, where they go wrong, and the longest.
+//! Texts of programs, where they go wrong, and the longest.
 use sb_syntax::{Code, SyntaxError, parse, print};
 use std::alloc::Global;
 use std::process::Abort;

@@ -1,4 +1,4 @@
-// Lines and a report of one store of sums, and the keys of its shard.
+//! Lines and a report of one store of sums, and the keys of its shard.
 ghost use Rattle.std.specs.Prelude.{◌≡◌, [], ◌∷◌, IfOk};
 ghost use Rattle.sb_report.specs.Transcript.{NamesStore};
 

@@ -1,4 +1,4 @@
-// Sets, maps and pairs.
+//! Sets, maps and pairs.
 ghost use Rattle.std.specs.Prelude.{◌≡◌, IfOk};
 ghost use Rattle.std.specs.Ordering.{int_cmp};
 ghost use Rattle.sb_gather.specs.Entries.{AreEntries};

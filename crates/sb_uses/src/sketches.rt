@@ -1,4 +1,4 @@
-// Sketches of known items, by SHA-256 as an outside program computes it.
+//! Sketches of known items, by SHA-256 as an outside program computes it.
 use crate::bounds::{regrouped, taken_back};
 use sb_laws::{Monoid, NoMemory, Semigroup};
 use sb_sketch::{Cells, CmsM, HllM, Registers};

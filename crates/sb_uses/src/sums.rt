@@ -1,4 +1,4 @@
-// Dictionaries of numbers and lists, and the folds over them.
+//! Dictionaries of numbers and lists, and the folds over them.
 ghost use Rattle.std.specs.Prelude.{◌≡◌, IfOk};
 
 use crate::bounds::{is_of_zero, regrouped, taken_back};

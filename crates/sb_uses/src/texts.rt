@@ -1,4 +1,4 @@
-// Texts and numbers, written and read again.
+//! Texts and numbers, written and read again.
 use sb_text::{
     Columns, Lines, NoMemory, Ranges, Text, escape, field_escape, field_unescape, read_i64,
     read_u64, unescape, write_i64, write_u64,

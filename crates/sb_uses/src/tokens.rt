@@ -1,4 +1,4 @@
-// Texts beside their nearest neighbours that have other tokens.
+//! Texts beside their nearest neighbours that have other tokens.
 use sb_text::{NoMemory, escape, write_u64};
 use sb_tokens::{
     Keyword, Symbol, Token, Tokens, write_int, write_keyword, write_name, write_symbol, write_text,

@@ -1,4 +1,4 @@
-// The first of scored items.
+//! The first of scored items.
 ghost use Rattle.std.specs.Prelude.{◌≡◌, IfOk};
 ghost use Rattle.std.specs.Ordering.{int_cmp};
 ghost use Rattle.sb_gather.specs.Tops.{by_rank, IsTop};

@@ -1,4 +1,4 @@
-// Values, their texts with the nearest neighbours that are none, and their order.
+//! Values, their texts with the nearest neighbours that are none, and their order.
 use sb_text::{NoMemory, Text};
 use sb_types::{Field, Ty, Val, Vals, compare, copy, read, read_front, read_key, text};
 use sqlite_items::{Boxed, Items};

@@ -1,4 +1,4 @@
-// Elements without parts at the front of the bytes.
+//! Elements without parts at the front of the bytes.
 ghost use Rattle.std.specs.Prelude.{◌≡◌, ◌-◌, nat_le, IfOk, option_map};
 ghost use Rattle.std.specs.List.{list_all};
 ghost use Rattle.sb_types.specs.TyView.{type_of};

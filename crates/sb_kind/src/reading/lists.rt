@@ -1,4 +1,4 @@
-// Elements that are lists at the front of the bytes.
+//! Elements that are lists at the front of the bytes.
 ghost use Rattle.std.specs.Prelude.{◌≡◌, ◌==◌, ◌*◌, false, length, Some, None, IfOk, MatchOption, option_map};
 ghost use Rattle.sb_types.specs.TyView.{type_of};
 ghost use Rattle.sb_kind.specs.Elements.{val_cmp};
