@@ -1,0 +1,5 @@
+pub mod Adding
+pub mod Answers
+pub mod Fields
+pub mod Rows
+pub mod Views
