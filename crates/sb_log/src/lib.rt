@@ -1,0 +1,9 @@
+//! Logs: from the lines of a text to the records that they say.
+#![tactic(auto)]
+
+mod fields;
+mod line_error;
+mod log;
+mod record;
+
+pub use log::read_log;
