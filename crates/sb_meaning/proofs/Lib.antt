@@ -1,0 +1,4 @@
+pub mod Blanks
+pub mod Picked
+pub mod Taken
+pub mod Views

@@ -1,0 +1,6 @@
+pub mod Emissions
+pub mod Expression
+pub mod Fold
+pub mod Operations
+pub mod Streams
+pub mod Words
