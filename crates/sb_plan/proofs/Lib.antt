@@ -1,0 +1,7 @@
+pub mod Folded
+pub mod Found
+pub mod Kept
+pub mod Keys
+pub mod Placing
+pub mod Positions
+pub mod Running

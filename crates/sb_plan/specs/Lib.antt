@@ -1,0 +1,4 @@
+pub mod Emitted
+pub mod Entries
+pub mod Parts
+pub mod Runners
