@@ -1,10 +1,9 @@
 -- Asks that are read one after the other, and numbers up to a limit.
-use Rattle.std.proofs.Common.{◌≡◌, ℕ, ◌<◌, ◌≤◌, ◌^◌, ◌-◌, Bool, true, false, cond, ◌&&◌, List, [], ◌∷◌, ◌++◌, Option, Some, None, Result, Ok, Err, refl, sym, ap, subst, ◌∙◌, append_assoc, arith}
-use Rattle.std.specs.Prelude.{IfSome, option_map, decimal}
+use Rattle.std.proofs.Common.{◌≡◌, ℕ, ◌<◌, ◌≤◌, ◌^◌, ◌-◌, List, [], ◌∷◌, ◌++◌, Option, Some, None, Result, Ok, Err, refl, sym, ap, subst, ◌∙◌, append_assoc, arith}
+use Rattle.std.specs.Prelude.{IfSome, decimal}
 use Rattle.sb_text.specs.Decimal.{natural}
 use Rattle.sb_text.proofs.Decimals.{natural-decimal, natural-spelled}
 use Rattle.sb_report.specs.declared.script.Ask.{Ask}
-use Rattle.sb_report.specs.declared.script.Ask.TheVariants.{Read}
 use Rattle.sb_report.specs.Script.{onto_asks}
 
 -- asks in front of what the lines that are left ask
@@ -50,10 +49,3 @@ none_within most bytes fits none =
     none_else most bytes (natural most bytes) (natural-spelled most bytes (omega (arith, fits))) (λ m is le.
     let e : None ≡ Some m = none ∙ read_again m bytes (omega (arith, fits, le)) is in
     cc)
-
--- a key's text that is read is asked for, where the store has the name
-pub key_asked : (same valid : Bool) (key : List ℕ) (read : Option (List ℕ)) → same ≡ true → read ≡ cond valid (Some key) None
-    → option_map (Read 0) read ≡ cond (same && valid) (Some (Read 0 key)) None
-key_asked true true key read is e = ap (option_map (Read 0)) e
-key_asked true false key read is e = ap (option_map (Read 0)) e
-key_asked false valid key read is e = cc

@@ -1,9 +1,15 @@
 -- The texts of a transcript's lines.
-use Rattle.std.specs.Prelude.{ℕ, ◌<◌, List, ◌∷◌, ◌++◌, codes, decimal}
+use Rattle.std.specs.Prelude.{ℕ, ◌<◌, slice_get, List, [], ◌∷◌, ◌++◌, codes, decimal}
+use Rattle.std.specs.Option.{option_map_or}
+use Rattle.sb_check.specs.Declarations.{Declarations}
 use Rattle.sb_text.specs.Ranges.{ranges_text}
 use Rattle.sb_report.specs.Report.{row_text}
 use Rattle.sb_report.specs.declared.line.TranscriptLine.{TranscriptLine}
 use Rattle.sb_report.specs.declared.line.TranscriptLine.TheVariants.{Read, Worked, Published, Drained, Row, End}
+
+-- the name of a store by its number; of one that isn't there, no name
+abbrev pub store_name : Declarations → ℕ → List ℕ
+store_name d store = option_map_or (λ s. s.name) (slice_get d.stores store) []
 
 -- a line with its LF, by the names of the stores
 abbrev pub line_text : (ℕ → List ℕ) → TranscriptLine → List ℕ

@@ -1,11 +1,12 @@
 //! Lines of a transcript.
-ghost use Rattle.std.specs.Prelude.{◌≡◌, ◌∷◌, ◌++◌, codes, decimal, length, take, OnOk, OnErr};
+ghost use Rattle.std.specs.Prelude.{◌≡◌, ◌∷◌, ◌++◌, ◌<◌, codes, decimal, length, take, OnOk, OnErr};
 ghost use Rattle.sb_text.specs.Ranges.{ranges_text};
 ghost use Rattle.sb_report.specs.Report.{row_text};
-ghost use Rattle.sb_report.specs.Transcript.{line_text, NamesStore};
+ghost use Rattle.sb_check.specs.CheckedView.{checked_of};
+ghost use Rattle.sb_report.specs.Transcript.{line_text, store_name, NamesStore};
 
 use crate::rows::push_row_front;
-use sb_feed::Printed;
+use sb_check::Checked;
 use sb_text::{NoMemory, Ranges, Text, write_u64};
 use std::alloc::Global;
 
@@ -41,20 +42,20 @@ pub enum TranscriptLine {
     End,
 }
 
-/// Writes a line with its LF at the end of `out`, with the names of the family's stores. A refusal leaves `out` as it was.
-pub fn write_line<F: Printed>(
+/// Writes a line with its LF at the end of `out`, with the names of the program's stores. A refusal leaves `out` as it was.
+pub fn write_line(
     alloc: Global,
-    family: &F,
+    c: &Checked,
     line: &TranscriptLine,
     out: &mut Vec<u8>,
 ) -> Result<(), NoMemory>
-    requires { NamesStore (length (F.monoids family.now)) line.now }
+    requires { NamesStore (length (checked_of c.now).declared.stores) line.now }
     ensures ok { OnOk result (out.new.items
-        ≡ out.old.items ++ line_text (F.name family.now) line.now) }
+        ≡ out.old.items ++ line_text (store_name (checked_of c.now).declared) line.now) }
     ensures err { OnErr result (out.new.items ≡ out.old.items) }
 {
     let before = out.len();
-    match push_line(alloc, family, line, out) {
+    match push_line(alloc, c, line, out) {
         Ok(()) => Ok(()),
         Err(e) => {
             out.truncate(before);
@@ -64,15 +65,15 @@ pub fn write_line<F: Printed>(
 }
 
 // Each `push_` stops in the middle where it finds no memory; what stood before is there still.
-fn push_line<F: Printed>(
+fn push_line(
     alloc: Global,
-    family: &F,
+    c: &Checked,
     line: &TranscriptLine,
     out: &mut Vec<u8>,
 ) -> Result<(), NoMemory>
-    requires { NamesStore (length (F.monoids family.now)) line.now }
+    requires { NamesStore (length (checked_of c.now).declared.stores) line.now }
     ensures ok { OnOk result (out.new.items
-        ≡ out.old.items ++ line_text (F.name family.now) line.now) }
+        ≡ out.old.items ++ line_text (store_name (checked_of c.now).declared) line.now) }
     ensures front { take (length out.old.items) out.new.items ≡ out.old.items }
 {
     match line {
@@ -84,17 +85,24 @@ fn push_line<F: Printed>(
             floor,
             cover,
         } => {
-            push_read(family.name(*store), key, value, out)?;
+            push_read(name_of(c, *store), key, value, out)?;
             push_cover(alloc, *published, *floor, cover, out)
         }
         TranscriptLine::Worked { count, chunks } => push_worked(alloc, *count, chunks, out),
         TranscriptLine::Published { published } => push_published(alloc, *published, out),
         TranscriptLine::Drained => out.extend_from_slice(b"drained\n"),
         TranscriptLine::Row { store, key, value } => {
-            push_row(family.name(*store), key, value, out)
+            push_row(name_of(c, *store), key, value, out)
         }
         TranscriptLine::End => out.extend_from_slice(b"end\n"),
     }
+}
+
+fn name_of(c: &Checked, store: u32) -> &Text
+    requires { store < length (checked_of c.now).declared.stores }
+    ensures { result.now ≡ store_name (checked_of c.now).declared store }
+{
+    &c.stores()[store as usize].name
 }
 
 fn push_read(store: &Text, key: &Text, value: &Text, out: &mut Vec<u8>) -> Result<(), NoMemory>

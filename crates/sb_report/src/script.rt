@@ -1,15 +1,20 @@
 //! Scripts: what their lines ask.
-ghost use Rattle.std.specs.Prelude.{◌≡◌, ℕ, [], ◌∷◌, true, false, Some, None, IfOk, option_map, if◌then◌else◌};
+ghost use Rattle.std.specs.Prelude.{◌≡◌, ◌<◌, ℕ, [], ◌∷◌, ◌+◌, map, length, Some, None, IfOk, IfSome, option_map, if◌then◌else◌, slice_get};
 ghost use Rattle.std.specs.List.{AllByRecursion};
-ghost use Rattle.std.specs.Str.{bytes_eq};
+ghost use Rattle.sb_check.specs.CheckedView.{checked_of};
+ghost use Rattle.sb_check.specs.Declarations.{store_of};
+ghost use Rattle.sb_check.specs.Names.{found};
 ghost use Rattle.sb_text.specs.Decimal.{natural};
 ghost use Rattle.sb_text.specs.Lines.{line_view};
+ghost use Rattle.sb_types.specs.TyView.{type_of};
 ghost use Rattle.sb_report.specs.Limits.{most_asked};
 ghost use Rattle.sb_report.specs.declared.script.Ask.{Ask as AskOf};
-ghost use Rattle.sb_report.specs.Script.{ReadsScript, AsksOf, script_of, ask_of, ask_in, read_in, number_in, is_key_text};
+ghost use Rattle.sb_report.specs.Script.{ReadsScript, AsksOf, script_of, ask_of, ask_in, read_in, number_in, is_text_of};
 
-use sb_text::{Columns, Line, Lines, NoMemory, Text, read_i64, read_u64, unescape};
-use std::alloc::Global;
+use sb_check::{Checked, StoreDecl};
+use sb_text::{Columns, Line, Lines, NoMemory, Text, read_u64};
+use sb_types::{Ty, read_front};
+use std::alloc::{AllocError, Global};
 use thiserror::Error;
 
 const BLANK: u8 = b' ';
@@ -51,31 +56,21 @@ impl From<NoMemory> for ScriptError {
     }
 }
 
-/// The asks of a script for a store of this name, whose keys are ints where `number` is set and else texts. The store has
-/// the number 0.
-pub fn read_script(
-    alloc: Global,
-    store: &Text,
-    number: bool,
-    bytes: &[u8],
-) -> Result<Vec<Ask>, ScriptError>
-    ensures read { ReadsScript (script_of store.now number bytes.now) result }
-    ensures stores { IfOk result (λ asks. AllByRecursion (AsksOf 1) asks.items) }
+/// The asks of a script for the stores of a program. Keys are given by their texts.
+pub fn read_script(alloc: Global, c: &Checked, bytes: &[u8]) -> Result<Vec<Ask>, ScriptError>
+    ensures read { ReadsScript (script_of (checked_of c.now).declared bytes.now) result }
+    ensures stores { IfOk result (λ asks.
+        AllByRecursion (AsksOf (length (checked_of c.now).declared.stores)) asks.items) }
 {
-    read_lines(alloc, store, number, bytes)
+    read_lines(alloc, c, bytes)
 }
 
-fn read_lines(
-    alloc: Global,
-    store: &Text,
-    number: bool,
-    bytes: &[u8],
-) -> Result<Vec<Ask>, ScriptError>
-    ensures { ReadsScript (script_of store.now number bytes.now) result }
+fn read_lines(alloc: Global, c: &Checked, bytes: &[u8]) -> Result<Vec<Ask>, ScriptError>
+    ensures { ReadsScript (script_of (checked_of c.now).declared bytes.now) result }
 {
     let mut asks = Vec::new(alloc);
     for line in Lines::new(bytes) {
-        let Some(ask) = read_line(alloc, store, number, line)? else {
+        let Some(ask) = read_line(alloc, c, line)? else {
             return Err(ScriptError::BadLine { line: line.number });
         };
         asks.push(ask).map_err(|_| ScriptError::NoMemory)?;
@@ -83,34 +78,25 @@ fn read_lines(
     Ok(asks)
 }
 
-fn read_line(
-    alloc: Global,
-    store: &Text,
-    number: bool,
-    line: Line<'_>,
-) -> Result<Option<Ask>, NoMemory>
-    ensures { IfOk result (λ ask. ask ≡ ask_of store.now number (line_view line.entry)) }
+fn read_line(alloc: Global, c: &Checked, line: Line<'_>) -> Result<Option<Ask>, NoMemory>
+    ensures { IfOk result (λ ask. ask
+        ≡ ask_of (checked_of c.now).declared (line_view line.entry)) }
 {
     if !line.ended || line.number > LINE_LIMIT {
         return Ok(None);
     }
     let mut words = Columns::separated_by(line.bytes, BLANK);
-    read_words(alloc, store, number, &mut words)
+    read_words(alloc, c, &mut words)
 }
 
-fn read_words(
-    alloc: Global,
-    store: &Text,
-    number: bool,
-    words: &mut Columns<'_>,
-) -> Result<Option<Ask>, NoMemory>
-    ensures { IfOk result (λ ask. ask ≡ ask_in store.now number words.old) }
+fn read_words(alloc: Global, c: &Checked, words: &mut Columns<'_>) -> Result<Option<Ask>, NoMemory>
+    ensures { IfOk result (λ ask. ask ≡ ask_in (checked_of c.now).declared words.old) }
 {
     let Some(word) = words.next() else {
         return Ok(None);
     };
     if word == b"read".as_slice() {
-        return read_read(alloc, store, number, words);
+        return read_read(alloc, c, words);
     }
     if word == b"work".as_slice() {
         return Ok(read_number(words).map(|most| Ask::Work { most }));
@@ -122,13 +108,8 @@ fn read_words(
 }
 
 // What stands behind `read`.
-fn read_read(
-    alloc: Global,
-    store: &Text,
-    number: bool,
-    words: &mut Columns<'_>,
-) -> Result<Option<Ask>, NoMemory>
-    ensures { IfOk result (λ ask. ask ≡ read_in store.now number words.old) }
+fn read_read(alloc: Global, c: &Checked, words: &mut Columns<'_>) -> Result<Option<Ask>, NoMemory>
+    ensures { IfOk result (λ ask. ask ≡ read_in (checked_of c.now).declared words.old) }
 {
     let Some(name) = words.next() else {
         return Ok(None);
@@ -139,31 +120,43 @@ fn read_read(
     if words.next().is_some() {
         return Ok(None);
     }
-    read_key_of(alloc, store, number, name, key)
+    read_key_of(alloc, c, name, key)
 }
 
-fn read_key_of(
-    alloc: Global,
-    store: &Text,
-    number: bool,
-    name: &[u8],
-    key: &[u8],
-) -> Result<Option<Ask>, NoMemory>
-    ensures { IfOk result (λ ask. ask ≡ read_in store.now number (name.now ∷ key.now ∷ [])) }
+fn read_key_of(alloc: Global, c: &Checked, name: &[u8], key: &[u8]) -> Result<Option<Ask>, NoMemory>
+    ensures { IfOk result (λ ask. ask
+        ≡ read_in (checked_of c.now).declared (name.now ∷ key.now ∷ [])) }
 {
-    if !is_name(name, store) {
+    let Some((at, store)) = find_store(c.stores(), name) else {
         return Ok(None);
-    }
-    match read_key(alloc, number, key)? {
-        Some(key) => Ok(Some(Ask::Read { store: 0, key })),
+    };
+    match read_key(alloc, &store.key, key)? {
+        Some(key) => Ok(Some(Ask::Read {
+            store: number_of(at)?,
+            key,
+        })),
         None => Ok(None),
     }
 }
 
-fn is_name(word: &[u8], store: &Text) -> bool
-    ensures { result ≡ bytes_eq word.now store.now }
+// The store of a name, with its place among the stores.
+fn find_store<'a>(stores: &'a [StoreDecl], name: &[u8]) -> Option<(usize, &'a StoreDecl)>
+    ensures { option_map (λ s. (s.0, store_of s.1.now)) result
+        ≡ found (λ s. s.name) name.now (map store_of stores.now) }
 {
-    word == store.as_bytes()
+    for (at, store) in stores.iter().enumerate() {
+        if name == store.name.as_bytes() {
+            return Some((at, store));
+        }
+    }
+    None
+}
+
+// No memory holds 2^32 stores.
+fn number_of(at: usize) -> Result<u32, NoMemory>
+    ensures { IfOk result (λ number. number ≡ at) }
+{
+    u32::try_from(at).map_err(|_| AllocError)
 }
 
 // What stands behind `work` and `publish`.
@@ -188,35 +181,20 @@ fn read_up_to_limit(bytes: &[u8]) -> Option<u64>
     }
 }
 
-// A key's text is canonical: what it spells is printed as the same bytes.
-fn read_key(alloc: Global, number: bool, key: &[u8]) -> Result<Option<Text>, NoMemory>
-    ensures { IfOk result (λ text. text ≡ (if is_key_text number key.now then Some key.now else
+// The key's text, where it is that of a value of the type. Texts of values are UTF-8, so what isn't is none.
+fn read_key(alloc: Global, ty: &Ty, key: &[u8]) -> Result<Option<Text>, NoMemory>
+    ensures { IfOk result (λ text. text ≡ (if is_text_of (type_of ty.now) key.now then Some key.now else
         None)) }
 {
-    if number {
-        return read_int_key(alloc, key);
+    match read_front(alloc, ty, key)? {
+        Some((_, [])) => Ok(Some(copy_text(alloc, key)?)),
+        _ => Ok(None),
     }
-    read_text_key(alloc, key)
 }
 
-fn read_int_key(alloc: Global, key: &[u8]) -> Result<Option<Text>, NoMemory>
-    ensures { IfOk result (λ text. text ≡ (if is_key_text true key.now then Some key.now else
-        None)) }
+// The bytes as a text. What isn't UTF-8 is no value's text and doesn't come here.
+fn copy_text(alloc: Global, bytes: &[u8]) -> Result<Text, NoMemory>
+    ensures { IfOk result (λ text. text ≡ bytes.now) }
 {
-    let Some(int) = read_i64(key) else {
-        return Ok(None);
-    };
-    let text = Text::from_i64(alloc, int)?;
-    Ok(Some(text))
-}
-
-fn read_text_key(alloc: Global, key: &[u8]) -> Result<Option<Text>, NoMemory>
-    ensures { IfOk result (λ text. text ≡ (if is_key_text false key.now then Some key.now else
-        None)) }
-{
-    let Some(text) = unescape(alloc, key)? else {
-        return Ok(None);
-    };
-    let text = text.escaped(alloc)?;
-    Ok(Some(text))
+    Text::from_bytes(bytes.to_vec(alloc)?).ok_or(AllocError)
 }

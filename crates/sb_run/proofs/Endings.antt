@@ -1,53 +1,64 @@
 -- How a command ends, from what its steps answered.
-use Rattle.std.proofs.Common.{◌≡◌, ◌⊎◌, ◌≤◌, ℕ, List, Option, Err, subst, sym, refl, ap, ◌∙◌, arith}
-use Rattle.std.specs.Prelude.{Result}
+use Rattle.std.proofs.Common.{◌≡◌, ◌⊎◌, ◌≤◌, ℕ, Bool, true, false, List, Option, Some, None, Ok, Err, subst, sym, refl, ap, ◌∙◌, arith}
+use Rattle.std.specs.Prelude.{Result, OnOk}
 use mathlib.Core.Logic.{inl, inr}
 use Rattle.sb_io.specs.Faults.{Rose}
 use Rattle.sb_io.specs.Shelf.{Content}
-use Rattle.sb_io.specs.Sink.{Appends}
-use Rattle.sb_run.specs.Call.{IsCutShort, Ends, IsCausedBy, NamesFault, Refuses, Leaves, Keeps}
-use Rattle.sb_run.specs.Due.{Inputs, Due, exactly, transcript, done, due_of, Loads}
-use Rattle.sb_run.specs.Refusals.{Answer, Cause, words, shelf, memory, input, cause_of, status_of, refusal_answer}
-use Rattle.sb_run.specs.Steps.{TellsBy, TellsRefusal}
-use Rattle.sb_run.specs.Words.{Command, Step, program, log, chunks, script, usage}
-use Rattle.sb_run.specs.declared.refusal.Refusal.{Refusal}
-use Rattle.sb_run.specs.declared.refusal.Refusal.TheVariants.{Usage, Shelf, NoMemory, ProgramLonger, Syntax, NotServed, Log, Chunks, ScriptLonger, ScriptLine}
-use Rattle.sb_run.specs.declared.refusal.Which.{Which}
-
--- how the line of a refusal is put
-abbrev pub PutEnds : Answer → Option (List ℕ) → Option (List ℕ) → ℕ → Type 0
-PutEnds answer before now status = ((status ≡ answer.status) × Appends answer.bytes before now) ⊎ (status ≡ 4) ⊎ (status ≡ 5)
+use Rattle.sb_io.specs.Sink.{Appends, HasSinkCause}
+use Rattle.sb_io.specs.declared.sink.SinkError.{SinkError}
+use Rattle.sb_io.specs.declared.sink.SinkError.TheVariants as failed
+use Rattle.sb_load.specs.Causes.{IsCausedBy, Leaves}
+use Rattle.sb_load.specs.Commands.{Step, program, order, services, log, chunks, script, program_name}
+use Rattle.sb_load.specs.Inputs.{Inputs, Loads}
+use Rattle.sb_load.specs.Refusals.{Answer, Cause, shelf, memory, input, cause_of, status_of, refusal_answer}
+use Rattle.sb_load.specs.Steps.{TellsBy, TellsRefusal}
+use Rattle.sb_load.specs.declared.refusal.Refusal.{Refusal}
+use Rattle.sb_load.specs.declared.refusal.Refusal.TheVariants as refused
+use Rattle.sb_load.specs.declared.refusal.Which.{Which}
+use Rattle.sb_run.specs.Call.{IsCutShort, Ends, IsOfWords, IsOfInputs, NamesFault, Refuses, LeavesBy, LeavesOf, Keeps}
+use Rattle.sb_run.specs.Due.{Due, exactly, transcript, done, Gives, IsDue, IsDueBy, IsMade, is_served, usage_answer, unserved_answer}
+use Rattle.sb_run.specs.Endings.{PutEnds, EndsPut}
+use Rattle.sb_run.specs.Commands.{IsBatch, IsCheck, IsServedRun}
+use Rattle.sb_words.specs.declared.command.Command.{Command}
+use Rattle.sb_words.specs.declared.command.Command.TheVariants.{Check, Batch, Run, Audit, Demo}
 
 -- the one refusal of this cause
-fault_of : (refusal : Refusal) (file : Which) → cause_of refusal ≡ shelf file → refusal ≡ Shelf file
-fault_of Usage file is = cc
-fault_of (Shelf told) file is = cc
-fault_of NoMemory file is = cc
-fault_of ProgramLonger file is = cc
-fault_of (Syntax offset why) file is = cc
-fault_of NotServed file is = cc
-fault_of Log file is = cc
-fault_of Chunks file is = cc
-fault_of ScriptLonger file is = cc
-fault_of (ScriptLine line) file is = cc
+fault_of : (refusal : Refusal) (file : Which) → cause_of refusal ≡ shelf file → refusal ≡ refused.Shelf file
+fault_of (refused.Shelf told) file is = cc
+fault_of refused.NoMemory file is = cc
+fault_of refused.ProgramLonger file is = cc
+fault_of (refused.Syntax offset why) file is = cc
+fault_of (refused.Check statement why) file is = cc
+fault_of (refused.Order store) file is = cc
+fault_of refused.ServiceUnknown file is = cc
+fault_of (refused.ServiceMissing name) file is = cc
+fault_of (refused.ServiceLonger name) file is = cc
+fault_of (refused.ServiceBad name line) file is = cc
+fault_of (refused.ServiceTwice name line first) file is = cc
+fault_of refused.LogLonger file is = cc
+fault_of (refused.LogLine line why) file is = cc
+fault_of refused.LogTooMany file is = cc
+fault_of refused.LogChunks file is = cc
+fault_of refused.ScriptLonger file is = cc
+fault_of (refused.ScriptLine line) file is = cc
 
 step_isnt_three : (step : Step) → status_of (input step) ≡ 3 → ⊥
 step_isnt_three program is = omega (arith, is)
+step_isnt_three order is = omega (arith, is)
+step_isnt_three services is = omega (arith, is)
 step_isnt_three log is = omega (arith, is)
 step_isnt_three chunks is = omega (arith, is)
 step_isnt_three script is = omega (arith, is)
 
-module _ (command : Command) (content_before content_now : List ℕ → Content) (faults_before faults_now : List ℕ → ℕ)
+-- what a put that ends well left is what it was given
+abbrev pub DoneBy : Due → Option (List ℕ) → Option (List ℕ) → Type 0
+DoneBy due before now = (bytes : List ℕ) × (due ≡ done bytes) × Appends bytes before now
+
+module _ (content_before content_now : List ℕ → Content) (faults_before faults_now : List ℕ → ℕ)
     (before now : Option (List ℕ)) (sink_before sink_now : ℕ) (status : ℕ) where
   cut_short : (due : Due) → IsCutShort status → Ends due before now status
   cut_short (exactly answer) short = inr short
   cut_short (transcript run settings asks) short = inr short
-
-  put_short : (answer : Answer) (due : Due) → PutEnds answer before now status → (status ≡ answer.status → Ends due before now status) → Ends due before now status
-  put_short answer due ends on = elim ends [
-    | inl put ↦ on put.0
-    | inr other ↦ elim other [ inl four ↦ cut_short due (inr (inl four)) | inr five ↦ cut_short due (inr (inr five)) ]
-  ]
 
   put_exactly : (answer : Answer) → PutEnds answer before now status → Ends (exactly answer) before now status
   put_exactly answer ends = elim ends [
@@ -55,95 +66,175 @@ module _ (command : Command) (content_before content_now : List ℕ → Content)
     | inr other ↦ elim other [ inl four ↦ inr (inr (inl four)) | inr five ↦ inr (inr (inr five)) ]
   ]
 
-  refused_ends : (refusal : Refusal) (cause : Cause) (loaded : Result Inputs Refusal) → cause_of refusal ≡ cause → TellsBy cause refusal loaded → PutEnds (refusal_answer refusal) before now status
-      → Ends (due_of command loaded) before now status
-  refused_ends refusal words loaded is tells ends = absurd tells
-  refused_ends refusal (shelf file) loaded is tells ends = put_short (refusal_answer refusal) (due_of command loaded) ends (λ same. cut_short (due_of command loaded) (inl (same ∙ ap status_of is)))
-  refused_ends refusal memory loaded is tells ends = put_short (refusal_answer refusal) (due_of command loaded) ends (λ same. cut_short (due_of command loaded) (inr (inr (same ∙ ap status_of is))))
-  refused_ends refusal (input step) loaded is tells ends =
-      subst (λ l. Ends (due_of command l) before now status) (sym tells) (put_exactly (refusal_answer refusal) ends)
-
-  names_by : (refusal : Refusal) (cause : Cause) → cause_of refusal ≡ cause → IsCausedBy command faults_before faults_now cause → status ≡ 3 → status ≡ status_of cause → Appends (refusal_answer refusal).bytes before now
-      → NamesFault command faults_before faults_now before now
-  names_by refusal words is caused three same put = absurd (omega (arith, three, same))
-  names_by refusal (shelf file) is caused three same put = (file, caused, subst (λ r. Appends (refusal_answer r).bytes before now) (fault_of refusal file is) put)
-  names_by refusal memory is caused three same put = absurd (omega (arith, three, same))
-  names_by refusal (input step) is caused three same put = absurd (step_isnt_three step (sym same ∙ three))
-
-  names_fault : (refusal : Refusal) → IsCausedBy command faults_before faults_now (cause_of refusal) → PutEnds (refusal_answer refusal) before now status → status ≡ 3
-      → NamesFault command faults_before faults_now before now
-  names_fault refusal caused ends three = elim ends [
-    | inl put ↦ names_by refusal (cause_of refusal) refl caused three put.0 put.1
-    | inr other ↦ elim other [ inl four ↦ absurd (omega (arith, three, four)) | inr five ↦ absurd (omega (arith, three, five)) ]
+  put_short : (answer : Answer) (due : Due) → PutEnds answer before now status → (status ≡ answer.status → IsCutShort status) → Ends due before now status
+  put_short answer due ends on = elim ends [
+    | inl put ↦ cut_short due (on put.0)
+    | inr other ↦ elim other [ inl four ↦ cut_short due (inr (inl four)) | inr five ↦ cut_short due (inr (inr five)) ]
   ]
 
-  refuses : (refusal : Refusal) → IsCausedBy command faults_before faults_now (cause_of refusal) → PutEnds (refusal_answer refusal) before now status
+  refuses : (command : Option Command) (answer : Answer) → IsOfWords command answer ⊎ IsOfInputs command faults_before faults_now answer → PutEnds answer before now status
       → Refuses command faults_before faults_now status before now
-  refuses refusal caused ends = elim ends [
-    | inl put ↦ inr (inr (inr (refusal, caused, put.0, put.1)))
+  refuses command answer is ends = elim ends [
+    | inl put ↦ inr (inr (inr (answer, is, put.0, put.1)))
     | inr other ↦ elim other [ inl four ↦ inr (inl four) | inr five ↦ inr (inr (inl five)) ]
   ]
 
-  -- a command that is refused, and whose line is put
-  pub refused_keeps : (refusal : Refusal) → ((loaded : Result Inputs Refusal) → Loads content_before command loaded → TellsRefusal refusal loaded) → IsCausedBy command faults_before faults_now (cause_of refusal)
-      → Leaves command content_before content_now faults_before faults_now → PutEnds (refusal_answer refusal) before now status → (status ≡ 4 → Rose sink_before sink_now) → sink_before ≤ sink_now
+  -- ---- words that are refused
+
+  words_status : (command : Option Command) (answer : Answer) → IsOfWords command answer → answer.status ≡ 2
+  words_status None answer is = ap (λ a. a.status) is
+  words_status (Some command) answer is = ap (λ a. a.status) is.1
+
+  not_three : (answer : Answer) → answer.status ≡ 2 → PutEnds answer before now status → status ≡ 3 → ⊥
+  not_three answer two ends three = elim ends [
+    | inl put ↦ omega (arith, two, three, put.0)
+    | inr other ↦ elim other [ inl four ↦ omega (arith, three, four) | inr five ↦ omega (arith, three, five) ]
+  ]
+
+  pub words_keep : (command : Option Command) (answer : Answer) → IsOfWords command answer → ((due : Due) → IsDue content_before command due → due ≡ exactly answer)
+      → LeavesOf command content_before content_now faults_before faults_now → PutEnds answer before now status → (status ≡ 4 → Rose sink_before sink_now) → sink_before ≤ sink_now
       → Keeps command content_before content_now faults_before faults_now before now sink_before sink_now status
-  refused_keeps refusal tells caused leaves ends sink later = record {
-    exact = λ due is_due. subst (λ d. Ends d before now status) (sym is_due.2) (refused_ends refusal (cause_of refusal) is_due.0 refl (tells is_due.0 is_due.1) ends);
-    shelf = names_fault refusal caused ends;
+  words_keep command answer is only leaves ends sink later = record {
+    exact = λ due is_due. subst (λ d. Ends d before now status) (sym (only due is_due)) (put_exactly answer ends);
+    shelf = λ three. absurd (not_three answer (words_status command answer is) ends three);
     sink = sink;
-    refusals = refuses refusal caused ends;
+    refusals = refuses command answer (inl is) ends;
     frame = leaves;
     later = later;
   }
 
-  -- words that are no command
-  pub usage_keeps : command ≡ usage → Leaves command content_before content_now faults_before faults_now → PutEnds (refusal_answer Usage) before now status → (status ≡ 4 → Rose sink_before sink_now)
-      → sink_before ≤ sink_now → Keeps command content_before content_now faults_before faults_now before now sink_before sink_now status
-  usage_keeps is leaves ends sink later = record {
-    exact = λ due is_due.
-        let loaded : is_due.0 ≡ Err Usage = subst (λ c. Loads content_before c is_due.0) is is_due.1 in
-        subst (λ d. Ends d before now status) (sym (is_due.2 ∙ ap (due_of command) loaded)) (put_exactly (refusal_answer Usage) ends);
-    shelf = names_fault Usage is ends;
-    sink = sink;
-    refusals = refuses Usage is ends;
-    frame = leaves;
-    later = later;
-  }
-
-  -- a command whose sink failed or wanted memory
-  pub short_keeps : (status ≡ 4) ⊎ (status ≡ 5) → Leaves command content_before content_now faults_before faults_now → (status ≡ 4 → Rose sink_before sink_now) → sink_before ≤ sink_now
+  -- words that wanted memory
+  pub memory_keeps : (command : Option Command) → LeavesOf command content_before content_now faults_before faults_now → PutEnds (refusal_answer refused.NoMemory) before now status
+      → (status ≡ 4 → Rose sink_before sink_now) → sink_before ≤ sink_now
       → Keeps command content_before content_now faults_before faults_now before now sink_before sink_now status
-  short_keeps short leaves sink later = record {
-    exact = λ due is_due. cut_short due (elim short [ inl four ↦ inr (inl four) | inr five ↦ inr (inr five) ]);
-    shelf = λ three. absurd (elim short [ inl four ↦ omega (arith, three, four) | inr five ↦ omega (arith, three, five) ]);
+  memory_keeps command leaves ends sink later = record {
+    exact = λ due is_due. put_short (refusal_answer refused.NoMemory) due ends (λ five. inr (inr five));
+    shelf = λ three. absurd (elim ends [
+      | inl put ↦ omega (arith, three, put.0)
+      | inr other ↦ elim other [ inl four ↦ omega (arith, three, four) | inr five ↦ omega (arith, three, five) ]
+    ]);
     sink = sink;
-    refusals = elim short [ inl four ↦ inr (inl four) | inr five ↦ inr (inr (inl five)) ];
+    refusals = elim ends [
+      | inl put ↦ inr (inr (inl put.0))
+      | inr other ↦ elim other [ inl four ↦ inr (inl four) | inr five ↦ inr (inr (inl five)) ]
+    ];
     frame = leaves;
     later = later;
   }
 
-  -- a command that did its work
-  pub done_keeps : (bytes : List ℕ) → status ≡ 0 → ((loaded : Result Inputs Refusal) → Loads content_before command loaded → due_of command loaded ≡ done bytes) → Appends bytes before now
-      → Leaves command content_before content_now faults_before faults_now → sink_before ≤ sink_now
-      → Keeps command content_before content_now faults_before faults_now before now sink_before sink_now status
-  done_keeps bytes zero' makes put leaves later = record {
-    exact = λ due is_due. subst (λ d. Ends d before now status) (sym (is_due.2 ∙ makes is_due.0 is_due.1)) (inl (zero', put));
-    shelf = λ three. absurd (omega (arith, zero', three));
-    sink = λ four. absurd (omega (arith, zero', four));
-    refusals = inl zero';
-    frame = leaves;
-    later = later;
-  }
+  -- ---- commands
 
--- the line of want of memory has status 5
-pub memory_ends : (before now : Option (List ℕ)) (status : ℕ) → PutEnds (refusal_answer NoMemory) before now status → (status ≡ 4) ⊎ (status ≡ 5)
-memory_ends before now status ends = elim ends [ inl put ↦ inr put.0 | inr other ↦ other ]
+  module _ (command : Command) (served : is_served command ≡ true) where
+    served_leaves : Leaves command content_before content_now faults_before faults_now → LeavesOf (Some command) content_before content_now faults_before faults_now
+    served_leaves leaves = subst (λ b. LeavesBy b command content_before content_now faults_before faults_now) (sym served) leaves
 
--- a shelf that isn't used is left
-pub untouched : (command : Command) (content : List ℕ → Content) (faults : List ℕ → ℕ) → Leaves command content content faults faults
-untouched command content faults = record { same = λ any. refl; later = λ any. omega arith; others = λ other is_other. refl }
+    -- what is due is given by what is loaded
+    due_given : (P : Due → Type 0) → ((loaded : Result Inputs Refusal) → Loads content_before command (program_name command) loaded → (due : Due) → Gives command loaded due → P due)
+        → (due : Due) → IsDue content_before (Some command) due → P due
+    due_given P given due is = let by = subst (λ b. IsDueBy b content_before command due) served is in given by.0 by.1 due by.2
 
--- a count that rose later rose
-pub rose_later : (before mid now : ℕ) → before ≤ mid → Rose mid now → Rose before now
-rose_later before mid now later rose = omega (arith, later, rose)
+    refused_by_cause : (refusal : Refusal) (cause : Cause) (loaded : Result Inputs Refusal) (due : Due) → cause_of refusal ≡ cause → TellsBy cause refusal loaded → Gives command loaded due
+        → PutEnds (refusal_answer refusal) before now status → Ends due before now status
+    refused_by_cause refusal (shelf file) loaded due is tells gives ends = put_short (refusal_answer refusal) due ends (λ same. inl (same ∙ ap status_of is))
+    refused_by_cause refusal memory loaded due is tells gives ends = put_short (refusal_answer refusal) due ends (λ same. inr (inr (same ∙ ap status_of is)))
+    refused_by_cause refusal (input step) loaded due is tells gives ends =
+        let only : due ≡ exactly (refusal_answer refusal) = subst (λ l. Gives command l due) tells gives in
+        subst (λ d. Ends d before now status) (sym only) (put_exactly (refusal_answer refusal) ends)
+
+    names_by : (refusal : Refusal) (cause : Cause) → cause_of refusal ≡ cause → IsCausedBy command faults_before faults_now cause → status ≡ 3 → status ≡ status_of cause
+        → Appends (refusal_answer refusal).bytes before now → NamesFault command faults_before faults_now before now
+    names_by refusal (shelf file) is caused three same put = (file, caused, subst (λ r. Appends (refusal_answer r).bytes before now) (fault_of refusal file is) put)
+    names_by refusal memory is caused three same put = absurd (omega (arith, three, same))
+    names_by refusal (input step) is caused three same put = absurd (step_isnt_three step (sym same ∙ three))
+
+    names_fault : (refusal : Refusal) → IsCausedBy command faults_before faults_now (cause_of refusal) → PutEnds (refusal_answer refusal) before now status → status ≡ 3
+        → NamesFault command faults_before faults_now before now
+    names_fault refusal caused ends three = elim ends [
+      | inl put ↦ names_by refusal (cause_of refusal) refl caused three put.0 put.1
+      | inr other ↦ elim other [ inl four ↦ absurd (omega (arith, three, four)) | inr five ↦ absurd (omega (arith, three, five)) ]
+    ]
+
+    -- a command that is refused, and whose line is put
+    pub refused_keeps : (refusal : Refusal) → ((loaded : Result Inputs Refusal) → Loads content_before command (program_name command) loaded → TellsRefusal refusal loaded)
+        → IsCausedBy command faults_before faults_now (cause_of refusal) → Leaves command content_before content_now faults_before faults_now → PutEnds (refusal_answer refusal) before now status
+        → (status ≡ 4 → Rose sink_before sink_now) → sink_before ≤ sink_now
+        → Keeps (Some command) content_before content_now faults_before faults_now before now sink_before sink_now status
+    refused_keeps refusal tells caused leaves ends sink later = record {
+      exact = due_given (λ due. Ends due before now status) (λ loaded loads due gives. refused_by_cause refusal (cause_of refusal) loaded due refl (tells loaded loads) gives ends);
+      shelf = names_fault refusal caused ends;
+      sink = sink;
+      refusals = refuses (Some command) (refusal_answer refusal) (inr (refusal, caused, refl)) ends;
+      frame = served_leaves leaves;
+      later = later;
+    }
+
+    -- a command that read its inputs, and put what it made of them
+    module _ (mid : Option (List ℕ)) (sink_mid : ℕ) (inputs : Inputs) (loads : (loaded : Result Inputs Refusal) → Loads content_before command (program_name command) loaded → loaded ≡ Ok inputs)
+        (leaves : Leaves command content_before content_now faults_before faults_now) where
+      put_ends : (put : Result (Unit {0}) SinkError) (due : Due) → OnOk put (DoneBy due before mid) → EndsPut put mid now status → Ends due before now status
+      put_ends (Ok done') due by ends = subst (λ d. Ends d before now status) (sym by.1) (inl (ends.0, subst (λ n. Appends by.0 before n) (sym ends.1) by.2))
+      put_ends (Err e) due by ends = elim ends [ inl four ↦ cut_short due (inr (inl four)) | inr five ↦ cut_short due (inr (inr five)) ]
+
+      put_isnt_three : (put : Result (Unit {0}) SinkError) → EndsPut put mid now status → status ≡ 3 → ⊥
+      put_isnt_three (Ok done') ends three = omega (arith, ends.0, three)
+      put_isnt_three (Err e) ends three = elim ends [ inl four ↦ omega (arith, three, four) | inr five ↦ omega (arith, three, five) ]
+
+      put_refuses : (put : Result (Unit {0}) SinkError) → EndsPut put mid now status → Refuses (Some command) faults_before faults_now status before now
+      put_refuses (Ok done') ends = inl ends.0
+      put_refuses (Err e) ends = elim ends [ inl four ↦ inr (inl four) | inr five ↦ inr (inr (inl five)) ]
+
+      pub made_keeps : (put : Result (Unit {0}) SinkError) → ((due : Due) → IsMade command inputs due → OnOk put (DoneBy due before mid)) → HasSinkCause sink_before sink_mid put
+          → EndsPut put mid now status → sink_mid ≤ sink_now → (status ≡ 4 → (put ≡ Err failed.Failed) ⊎ Rose sink_mid sink_now)
+          → Keeps (Some command) content_before content_now faults_before faults_now before now sink_before sink_now status
+      made_keeps put makes cause ends later sink = record {
+        exact = due_given (λ due. Ends due before now status) (λ loaded loaded_is due gives.
+            put_ends put due (makes due (subst (λ l. Gives command l due) (loads loaded loaded_is) gives)) ends);
+        shelf = λ three. absurd (put_isnt_three put ends three);
+        sink = λ four. elim (sink four) [
+          | inl is ↦ let rose : Rose sink_before sink_mid = cause.failed is in omega (arith, rose, later)
+          | inr rose ↦ let early = cause.later in omega (arith, rose, early)
+        ];
+        refusals = put_refuses put ends;
+        frame = served_leaves leaves;
+        later = omega (arith, cause.later, later);
+      }
+
+-- a shelf that isn't used is left, whatever the words are
+left_by : (served : Bool) (command : Command) (content : List ℕ → Content) (faults : List ℕ → ℕ) → LeavesBy served command content content faults faults
+left_by false command content faults = ((λ any. refl), λ any. refl)
+left_by true command content faults = record { same = λ any. refl; later = λ any. omega arith; others = λ other is_other. refl }
+
+pub all_left : (command : Option Command) (content : List ℕ → Content) (faults : List ℕ → ℕ) → LeavesOf command content content faults faults
+all_left None content faults = ((λ any. refl), λ any. refl)
+all_left (Some command) content faults = left_by (is_served command) command content faults
+
+-- what is due for words that are no command
+pub usage_only : (content : List ℕ → Content) (due : Due) → IsDue content None due → due ≡ exactly usage_answer
+usage_only content due is = is
+
+-- what is due for a command that isn't served
+pub unserved_only : (content : List ℕ → Content) (command : Command) → is_served command ≡ false → (due : Due) → IsDue content (Some command) due → due ≡ exactly unserved_answer
+unserved_only content command unserved due is = subst (λ b. IsDueBy b content command due) unserved is
+
+-- ---- commands that are served
+
+pub served_check : (command : Command) → IsCheck command → is_served command ≡ true
+served_check (Check p) own = refl
+served_check (Batch p l files) own = absurd own
+served_check (Run p l s files settings) own = absurd own
+served_check (Audit p l s judged files chunk shards) own = absurd own
+served_check (Demo seed records workers) own = absurd own
+
+pub served_batch : (command : Command) → IsBatch command → is_served command ≡ true
+served_batch (Check p) own = absurd own
+served_batch (Batch p l files) own = refl
+served_batch (Run p l s files settings) own = absurd own
+served_batch (Audit p l s judged files chunk shards) own = absurd own
+served_batch (Demo seed records workers) own = absurd own
+
+pub served_run : (command : Command) → IsServedRun command → is_served command ≡ true
+served_run (Check p) own = absurd own
+served_run (Batch p l files) own = absurd own
+served_run (Run p l s files settings) own = own
+served_run (Audit p l s judged files chunk shards) own = absurd own
+served_run (Demo seed records workers) own = absurd own

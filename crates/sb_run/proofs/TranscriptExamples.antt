@@ -5,7 +5,7 @@ use Rattle.sb_report.specs.declared.script.Ask.{Ask}
 use Rattle.sb_report.specs.declared.script.Ask.TheVariants as ask
 use Rattle.sb_report.specs.declared.line.TranscriptLine.{TranscriptLine}
 use Rattle.sb_report.specs.declared.line.TranscriptLine.TheVariants as line
-use Rattle.sb_run.specs.Program.{plus}
+use Rattle.std.specs.Int.{w64, int_wrapping_add}
 use Rattle.sb_run.specs.Run.{Run}
 use Rattle.sb_run.specs.Transcript.{Answers, AnswerAll}
 
@@ -14,7 +14,7 @@ run : Run ℤ
 run = record {
   stores = record {
     name = codes "total";
-    add = plus;
+    add = int_wrapping_add w64;
     text = signed_decimal;
     emissions = record { position = 0; key = codes "a"; value = pos 5 } ∷ record { position = 1; key = codes "b"; value = pos 7 } ∷ record { position = 2; key = codes "a"; value = negsuc 1 } ∷ [];
   } ∷ [];

@@ -1,16 +1,27 @@
--- What contracts see of the words that are read.
-use Rattle.std.specs.Prelude.{◌≤◌, Option, Some, None}
-use Rattle.sb_feed.specs.Limits.{most_records_of_a_chunk}
-use Rattle.sb_run.specs.Words as words
-use Rattle.sb_run.specs.declared.command.Command.{Command}
-use Rattle.sb_run.specs.declared.command.Command.TheVariants.{Batch, Run}
+-- Which command is which.
+use Rattle.std.specs.Prelude.{◌≡◌, true}
+use Rattle.sb_words.specs.declared.command.Command.{Command}
+use Rattle.sb_words.specs.declared.command.Command.TheVariants.{Check, Batch, Run, Audit, Demo}
+use Rattle.sb_run.specs.Due.{is_served}
 
-abbrev pub command_view : Option Command → words.Command
-command_view None = words.usage
-command_view (Some (Batch program log)) = words.batch program.now log.now
-command_view (Some (Run program log script chunk)) = words.run program.now log.now script.now chunk
+abbrev pub IsCheck : Command → Type 0
+IsCheck (Check program) = Unit {0}
+IsCheck (Batch program log services) = ⊥
+IsCheck (Run program log script services settings) = ⊥
+IsCheck (Audit program log script judged services chunk shards) = ⊥
+IsCheck (Demo seed records workers) = ⊥
 
--- a run's chunks have a number within the limits
-abbrev pub IsChunked : Command → Type 0
-IsChunked (Batch program log) = Unit {0}
-IsChunked (Run program log script chunk) = (1 ≤ chunk) × (chunk ≤ most_records_of_a_chunk)
+abbrev pub IsBatch : Command → Type 0
+IsBatch (Check program) = ⊥
+IsBatch (Batch program log services) = Unit {0}
+IsBatch (Run program log script services settings) = ⊥
+IsBatch (Audit program log script judged services chunk shards) = ⊥
+IsBatch (Demo seed records workers) = ⊥
+
+-- a live run, with settings that are served: without workers and publisher, and with one shard
+abbrev pub IsServedRun : Command → Type 0
+IsServedRun (Check program) = ⊥
+IsServedRun (Batch program log services) = ⊥
+IsServedRun (Run program log script services settings) = is_served (Run program log script services settings) ≡ true
+IsServedRun (Audit program log script judged services chunk shards) = ⊥
+IsServedRun (Demo seed records workers) = ⊥

@@ -1,13 +1,17 @@
 -- What a run is about: a program's stores over the records of a log, and where records and keys go.
-use Rattle.std.specs.Prelude.{ℕ, zero, suc, ℤ, List, [], ◌∷◌, map, codes, Bool}
-use Rattle.std.specs.Fmt.{signed_decimal}
+use Rattle.std.specs.Prelude.{ℕ, zero, suc, List, [], ◌∷◌, map, codes, Bool}
 use Rattle.std.specs.List.{flat_map}
+use Rattle.sb_check.specs.Declarations.{Store}
+use Rattle.sb_check.specs.Log.{Logged}
+use Rattle.sb_check.specs.Programs.{CheckedProgram}
 use Rattle.sb_feed.specs.Places.{Places, is_named}
+use Rattle.sb_kind.specs.ElementText.{element_text}
+use Rattle.sb_kind.specs.Elements.{plus}
+use Rattle.sb_kind.specs.declared.agg.Agg.{Agg}
+use Rattle.sb_plan.specs.Emitted.{Emission, emitted, fold_of, everywhere}
+use Rattle.sb_plan.specs.Runners.{batch_in}
 use Rattle.sb_report.specs.Report.{fold_text, store_report}
-use Rattle.sb_run.specs.Fold.{Emission, fold_of, everywhere}
-use Rattle.sb_run.specs.Log.{LogRecord}
-use Rattle.sb_run.specs.Program.{Program, plus, schema_of, emission_of}
-use Rattle.sb_run.specs.Schema.{batch_of_time}
+use Rattle.sb_service.specs.Rows.{Rows}
 
 -- a store over a log: its name, its plus, the texts of its elements, and what the log's records emit into it
 pub record StoreRun (E : Type 0) : Type 0 where
@@ -49,13 +53,19 @@ rows_text s = store_report s.text s.name (map (λ e. e.key) s.emissions) (λ key
 abbrev pub report_text : {E : Type 0} → Run E → List ℕ
 report_text run = flat_map rows_text run.stores
 
--- the store of a program over these records
-abbrev pub store_of : Program → List LogRecord → StoreRun ℤ
-store_of program records = record { name = program.store; add = plus; text = signed_decimal; emissions = map (emission_of program) records }
+-- the store of this number over a log, with the rows of the program's services
+abbrev pub store_run : CheckedProgram → List Logged → List Rows → ℕ → Store → StoreRun Agg
+store_run c log services number s =
+    record { name = s.name; add = plus s.monoid; text = element_text; emissions = emitted c log services number }
 
--- the run of a program over these records, in chunks of so many, with one shard
-abbrev pub run_of : Program → ℕ → List LogRecord → Run ℤ
-run_of program chunk records = record {
-  stores = store_of program records ∷ [];
-  places = record { batches = map (λ r. batch_of_time (schema_of program) r.time) records; chunk = chunk; shards = 1 };
+-- the stores from this number on
+abbrev pub store_runs : CheckedProgram → List Logged → List Rows → ℕ → List Store → List (StoreRun Agg)
+store_runs c log services number [] = []
+store_runs c log services number (s ∷ stores) = store_run c log services number s ∷ store_runs c log services (suc number) stores
+
+-- the run of a program over a log, in chunks of so many records, with so many shards
+abbrev pub run_of : CheckedProgram → ℕ → ℕ → List Logged → List Rows → Run Agg
+run_of c chunk shards log services = record {
+  stores = store_runs c log services 0 c.declared.stores;
+  places = record { batches = map (batch_in c) log; chunk = chunk; shards = shards };
 }

@@ -1,133 +1,169 @@
-//! `batch`: the sums of a program's store over a closed log.
-ghost use Rattle.std.specs.Prelude.{◌≡◌, [], ◌∷◌, ◌++◌, ℤ, List, map, IsTrue, IfOk, IfErr, OnOk};
-ghost use Rattle.std.specs.FinMap.{is_sorted};
-ghost use Rattle.sb_feed.specs.declared.key.KeyBytes.{KeyBytes as Key};
+//! `batch`: the sums of a program's stores over a closed log.
+ghost use Rattle.std.specs.Prelude.{◌<◌, ◌++◌, [], ◌∷◌, List, map, length, Some, IfOk, OnOk};
+ghost use Rattle.std.specs.List.{AllByRecursion};
+ghost use Rattle.sb_check.specs.CheckedView.{checked_of};
 ghost use Rattle.sb_feed.specs.Jobs.{AreValid};
-ghost use Rattle.sb_feed.specs.Keys.{key_order};
+ghost use Rattle.sb_feed.specs.declared.key.KeyBytes.{KeyBytes as Key};
+ghost use Rattle.sb_io.specs.Sink.{Appends, HasSinkCause};
 ghost use Rattle.sb_job.specs.Sums.{AreKeySums, HasKeySums};
-ghost use Rattle.sb_run.specs.Call.{IsCausedBy, Leaves};
-ghost use Rattle.sb_run.specs.Due.{Loads};
-ghost use Rattle.sb_run.specs.Feed.{keyed, sums as meaning};
-ghost use Rattle.sb_run.specs.Program.{emission_of};
-ghost use Rattle.sb_run.specs.Refusals.{cause_of};
-ghost use Rattle.sb_run.specs.Run.{run_of, report_text};
-ghost use Rattle.sb_run.specs.Steps.{MakesAll, summed_text};
-ghost use Rattle.sb_run.specs.Views.{program_view, record_view, records_view};
-ghost use Rattle.sb_run.specs.Words.{batch};
+ghost use Rattle.sb_kind.specs.declared.agg.Agg.{Agg as Element};
+ghost use Rattle.sb_load.specs.Steps.{records_of};
+ghost use Rattle.sb_meaning.specs.Emissions.{emission_of};
+ghost use Rattle.sb_plan.specs.Emitted.{by_text, emitted};
+ghost use Rattle.sb_plan.specs.Runners.{AreStores, kind_monoid};
+ghost use Rattle.sb_run.specs.Batching.{keyed, stores, store_text, IsEmittedInto};
+ghost use Rattle.sb_run.specs.Call.{Keeps};
+ghost use Rattle.sb_run.specs.Commands.{IsBatch};
+ghost use Rattle.sb_run.specs.Run.{report_text, run_of};
+ghost use Rattle.sb_service.specs.Views.{view_service};
+ghost use Rattle.sb_words.specs.Limits.{IsWithin};
 
-use crate::emission::emission_of;
-use crate::feed::StoreFeed;
-use crate::inputs::fetch_both;
-use crate::log::LogRecord;
-use crate::program::Program;
-use crate::refusal::Refusal;
-use sb_feed::KeyBytes;
-use sb_io::Shelf;
+use crate::ending::{put_refusal, status_of};
+use crate::report::put_report;
+use sb_check::{Checked, Log};
+use sb_feed::{Family, KeyBytes, RowList};
+use sb_io::{Shelf, Sink, SinkError};
 use sb_job::KeySums;
+use sb_kind::Agg;
+use sb_load::load;
+use sb_meaning::{Emitted, emit_all};
+use sb_plan::{Runner, key_text};
+use sb_service::Service;
 use sb_text::NoMemory;
+use sb_words::Command;
 use std::alloc::Global;
 
-/// The sums of a store, with its name.
-#[derive(Debug, Drop)]
-pub struct Summed {
-    pub family: StoreFeed,
-    /// The sum of each key, in rising order of the keys.
-    pub rows: Vec<(KeyBytes, i64)>,
-}
-
-/// The sums of the program of one file over the log of another.
-pub fn sum_log<H: Shelf>(
+/// Does what the words of this `batch` command say: it writes the report, for each store of the program each key with an
+/// emission, in rising order of its text's bytes, with its sum over the whole log. The status is that of the top call.
+pub fn batch_command<H: Shelf, K: Sink>(
     alloc: Global,
+    command: &Command,
     shelf: &mut H,
-    program: &str,
-    log: &str,
-) -> Result<Summed, Refusal>
-    ensures exact { MakesAll (Loads (H.content shelf.old) (batch program.now log.now))
-        (batch program.now log.now) summed_text result }
-    ensures cause { IfErr result (λ refusal.
-        IsCausedBy (batch program.now log.now) (H.faults shelf.old) (H.faults shelf.new)
-        (cause_of refusal)) }
-    ensures valid { IfOk result (λ summed. AreValid (meaning summed.family) summed.rows.items) }
-    ensures frame { Leaves (batch program.now log.now) (H.content shelf.old) (H.content shelf.new)
-        (H.faults shelf.old) (H.faults shelf.new) }
+    sink: &mut K,
+) -> u8
+    requires own { IsBatch command.now }
+    requires within { IsWithin command.now }
+    ensures { Keeps (Some command.now) (H.content shelf.old) (H.content shelf.new)
+        (H.faults shelf.old) (H.faults shelf.new) (K.written sink.old) (K.written sink.new)
+        (K.faults sink.old) (K.faults sink.new) result }
 {
-    let (program, records) = match fetch_both(alloc, shelf, program, log) {
-        Ok(both) => both,
-        Err(refusal) => return Err(refusal),
-    };
-    match sum_records(alloc, &program, records) {
-        Ok(summed) => Ok(summed),
-        Err(_) => Err(Refusal::NoMemory),
+    match load(alloc, command, shelf) {
+        Ok(inputs) => {
+            let put = put_stores(
+                alloc,
+                sink,
+                inputs.program.checked(),
+                &inputs.log,
+                &inputs.services,
+            );
+            status_of(sink, put)
+        }
+        Err(refusal) => put_refusal(sink, &refusal),
     }
 }
 
-fn sum_records(
+// Puts the report, store after store.
+fn put_stores<K: Sink>(
     alloc: Global,
-    program: &Program,
-    records: Vec<LogRecord>,
-) -> Result<Summed, NoMemory>
-    ensures report { IfOk result (λ summed. summed_text summed
-        ≡ report_text (run_of (program_view program.now) 1 (records_view records))) }
-    ensures valid { IfOk result (λ summed. AreValid (meaning summed.family) summed.rows.items) }
+    sink: &mut K,
+    c: &Checked,
+    log: &Log,
+    services: &[Service],
+) -> Result<(), SinkError>
+    ensures ok { OnOk result (Appends (report_text (run_of (checked_of c.now) 1 1
+        (records_of log.now) (map view_service services.now))) (K.written sink.old)
+        (K.written sink.new)) }
+    ensures cause { HasSinkCause (K.faults sink.old) (K.faults sink.new) result }
 {
-    let name = program.store.copy(alloc)?;
-    let family = StoreFeed::empty(alloc, name);
-    let rows = rows_of(alloc, &family, program, records)?;
-    Ok(Summed { family, rows })
+    let runner = match Runner::new(alloc, c) {
+        Ok(runner) => runner,
+        Err(_) => return Err(SinkError::NoMemory),
+    };
+    for store in 0..runner.stores() {
+        put_store(alloc, sink, c, &runner, log, services, store)?;
+    }
+    Ok(())
 }
 
-fn rows_of(
+// Puts the report of the store of this number.
+fn put_store<K: Sink>(
     alloc: Global,
-    family: &StoreFeed,
-    program: &Program,
-    records: Vec<LogRecord>,
-) -> Result<Vec<(KeyBytes, i64)>, NoMemory>
-    ensures sums { IfOk result (λ rows. AreKeySums (meaning family.now)
-        (map keyed (map (emission_of (program_view program.now)) (records_view records)))
-        rows.items) }
-    ensures rising { IfOk result (λ rows. IsTrue (is_sorted key_order rows.items)) }
+    sink: &mut K,
+    c: &Checked,
+    runner: &Runner,
+    log: &Log,
+    services: &[Service],
+    store: u32,
+) -> Result<(), SinkError>
+    requires stores { AreStores (checked_of c.now) kind_monoid runner.now }
+    requires store { store < length (checked_of c.now).declared.stores }
+    ensures ok { OnOk result (Appends (store_text (checked_of c.now) (records_of log.now)
+        (map view_service services.now) store) (K.written sink.old) (K.written sink.new)) }
+    ensures cause { HasSinkCause (K.faults sink.old) (K.faults sink.new) result }
 {
-    let sums = sums_of(alloc, family, program, records)?;
+    match sum_store(alloc, c, runner, log, services, store) {
+        Ok(rows) => put_report(alloc, sink, runner, rows.as_slice()),
+        Err(_) => Err(SinkError::NoMemory),
+    }
+}
+
+// The sum of each key of the store, over the whole log.
+fn sum_store(
+    alloc: Global,
+    c: &Checked,
+    runner: &Runner,
+    log: &Log,
+    services: &[Service],
+    store: u32,
+) -> Result<RowList<Agg>, NoMemory>
+    requires stores { AreStores (checked_of c.now) kind_monoid runner.now }
+    requires store { store < length (checked_of c.now).declared.stores }
+    ensures { IfOk result (λ rows. AreKeySums (stores runner.now) (map (keyed store)
+        (emitted (checked_of c.now) (records_of log.now) (map view_service services.now) store))
+        rows) }
+{
+    let all = emit_all(alloc, c, log, services, store)?;
+    let sums = add_all(alloc, runner, store, all)?;
     let rows = sums.into_rows(alloc)?;
-    Ok(rows.into_vec())
+    Ok(rows)
 }
 
-// Each record's value is added to the sum of its key as the record is taken.
-fn sums_of(
+// Each value is added on the right of its key's sum.
+fn add_all(
     alloc: Global,
-    family: &StoreFeed,
-    program: &Program,
-    records: Vec<LogRecord>,
-) -> Result<KeySums<i64>, NoMemory>
-    ensures valid { IfOk result (AreValid (meaning family.now)) }
-    ensures sums { IfOk result (HasKeySums (meaning family.now)
-        (map keyed (map (emission_of (program_view program.now)) (records_view records)))) }
+    runner: &Runner,
+    store: u32,
+    all: Vec<Emitted>,
+) -> Result<KeySums<Agg>, NoMemory>
+    requires store { store < length runner.now.monoids }
+    requires valid { AllByRecursion (IsEmittedInto runner.now store) all.items }
+    ensures valid { IfOk result (AreValid (stores runner.now)) }
+    ensures sums { IfOk result (HasKeySums (stores runner.now)
+        (map (keyed store) (map by_text (map emission_of all.items)))) }
 {
     let mut sums = KeySums::new(alloc);
-    for logged in records {
-        add(alloc, family, program, &mut sums, logged)?;
+    for emitted in all {
+        add(alloc, runner, store, &mut sums, emitted)?;
     }
     Ok(sums)
 }
 
 fn add(
     alloc: Global,
-    family: &StoreFeed,
-    program: &Program,
-    sums: &mut KeySums<i64>,
-    logged: LogRecord,
+    runner: &Runner,
+    store: u32,
+    sums: &mut KeySums<Agg>,
+    emitted: Emitted,
 ) -> Result<(), NoMemory>
-    requires valid { AreValid (meaning family.now) sums.old }
-    ensures valid { OnOk result (AreValid (meaning family.now) sums.new) }
-    ensures sums { OnOk result ((values : List (Key × ℤ))
-        → HasKeySums (meaning family.now) values sums.old
-        → HasKeySums (meaning family.now) (values
-        ++ keyed (emission_of (program_view program.now) (record_view logged)) ∷ []) sums.new) }
+    requires store { store < length runner.now.monoids }
+    requires value { IsEmittedInto runner.now store emitted }
+    requires valid { AreValid (stores runner.now) sums.old }
+    ensures valid { OnOk result (AreValid (stores runner.now) sums.new) }
+    ensures sums { OnOk result ((values : List (Key × Element))
+        → HasKeySums (stores runner.now) values sums.old
+        → HasKeySums (stores runner.now)
+        (values ++ keyed store (by_text (emission_of emitted)) ∷ []) sums.new) }
 {
-    let emission = emission_of(alloc, program, logged)?;
-    let key = KeyBytes {
-        store: 0,
-        text: emission.key,
-    };
-    sums.add(alloc, family, key, emission.value)
+    let text = key_text(alloc, &emitted.key)?;
+    sums.add(alloc, runner, KeyBytes { store, text }, emitted.value)
 }

@@ -1,5 +1,6 @@
 //! Laws of the definitions, each on a function that does nothing.
-ghost use Rattle.std.specs.Prelude.{ℤ, List};
+ghost use Rattle.std.specs.Prelude.{List};
+ghost use Rattle.sb_kind.specs.declared.agg.Agg.{Agg};
 ghost use Rattle.sb_report.specs.declared.script.Ask.{Ask};
 ghost use Rattle.sb_run.specs.Run.{Run};
 ghost use Rattle.sb_run.specs.ScriptOutput.{run_text};
@@ -7,5 +8,5 @@ ghost use Rattle.sb_run.specs.Settled.{serial, IsSettled};
 
 /// What a run without workers writes is a settled transcript.
 pub fn script_output_is_transcript()
-    ensures { (run : Run ℤ) (asks : List Ask) → IsSettled serial run asks (run_text run asks) }
+    ensures { (run : Run Agg) (asks : List Ask) → IsSettled serial run asks (run_text run asks) }
 {}

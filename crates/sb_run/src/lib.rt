@@ -3,19 +3,14 @@
 
 mod answering;
 mod batch;
-mod command;
-mod emission;
-mod feed;
-mod form;
-mod inputs;
+mod check;
+mod ending;
 mod laws;
-mod log;
-mod outline;
-mod program;
-mod refusal;
+mod live;
 mod report;
-mod run;
 mod top;
 
+pub use batch::batch_command;
+pub use check::check_command;
 pub use laws::script_output_is_transcript;
 pub use top::summingbird;

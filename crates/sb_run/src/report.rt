@@ -4,11 +4,12 @@ ghost use Rattle.std.specs.List.{flat_map};
 ghost use Rattle.sb_feed.specs.Jobs.{AreValid};
 ghost use Rattle.sb_io.specs.Sink.{Appends, HasSinkCause};
 ghost use Rattle.sb_run.specs.Blocks.{Sends};
-ghost use Rattle.sb_run.specs.Feed.{feed_row, sums};
+ghost use Rattle.sb_run.specs.Batching.{batch_row, stores};
 
-use crate::feed::StoreFeed;
 use sb_feed::KeyBytes;
 use sb_io::{Sink, SinkError};
+use sb_kind::Agg;
+use sb_plan::Runner;
 use sb_report::write_row;
 use std::alloc::Global;
 
@@ -19,11 +20,11 @@ const BLOCK: usize = 65_536;
 pub fn put_report<K: Sink>(
     alloc: Global,
     sink: &mut K,
-    family: &StoreFeed,
-    rows: &[(KeyBytes, i64)],
+    family: &Runner,
+    rows: &[(KeyBytes, Agg)],
 ) -> Result<(), SinkError>
-    requires valid { AreValid (sums family.now) rows.now }
-    ensures ok { OnOk result (Appends (flat_map (feed_row family.now) rows.now) (K.written sink.old)
+    requires valid { AreValid (stores family.now) rows.now }
+    ensures ok { OnOk result (Appends (flat_map (batch_row family.now) rows.now) (K.written sink.old)
         (K.written sink.new)) }
     ensures cause { HasSinkCause (K.faults sink.old) (K.faults sink.new) result }
 {
@@ -39,11 +40,11 @@ fn put_row<K: Sink>(
     alloc: Global,
     sink: &mut K,
     block: &mut Vec<u8>,
-    family: &StoreFeed,
-    row: &(KeyBytes, i64),
+    family: &Runner,
+    row: &(KeyBytes, Agg),
 ) -> Result<(), SinkError>
-    requires valid { AreValid (sums family.now) (row.now ∷ []) }
-    ensures ok { OnOk result (Sends (feed_row family.now row.now) (K.written sink.old)
+    requires valid { AreValid (stores family.now) (row.now ∷ []) }
+    ensures ok { OnOk result (Sends (batch_row family.now row.now) (K.written sink.old)
         block.old.items (K.written sink.new) block.new.items) }
     ensures cause { HasSinkCause (K.faults sink.old) (K.faults sink.new) result }
 {

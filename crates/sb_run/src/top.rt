@@ -1,27 +1,24 @@
 //! The top call.
-ghost use Rattle.std.specs.Prelude.{◌≡◌, ◌≤◌, ◌⊎◌, IfSome};
-ghost use Rattle.sb_feed.specs.Limits.{most_records_of_a_chunk};
+ghost use Rattle.std.specs.Prelude.{◌≡◌, ◌≤◌, ◌==◌, ◌&&◌, not, Some};
 ghost use Rattle.sb_io.specs.Faults.{Rose};
-ghost use Rattle.sb_io.specs.Sink.{Appends};
-ghost use Rattle.sb_run.specs.Call.{texts, Ends, NamesFault, Refuses, Leaves, Keeps};
-ghost use Rattle.sb_run.specs.Commands.{command_view, IsChunked};
-ghost use Rattle.sb_run.specs.Due.{Due, IsDue};
-ghost use Rattle.sb_run.specs.Refusals.{refusal_answer};
-ghost use Rattle.sb_run.specs.Words.{batch, run, command_of};
+ghost use Rattle.sb_run.specs.Call.{texts, Ends, NamesFaultOf, Refuses, LeavesOf, Keeps};
+ghost use Rattle.sb_run.specs.Due.{Due, IsDue, is_served};
+ghost use Rattle.sb_words.specs.Command.{command_of};
+ghost use Rattle.sb_words.specs.Limits.{IsWithin};
 
-use crate::answering::answer_all;
-use crate::batch::sum_log;
-use crate::command::{Command, read_words};
-use crate::refusal::Refusal;
-use crate::report::put_report;
-use crate::run::prepare;
-use sb_io::{Shelf, Sink, SinkError};
+use crate::batch::batch_command;
+use crate::check::check_command;
+use crate::ending::{put_refusal, put_unserved, put_usage};
+use crate::live::run_command;
+use sb_io::{Shelf, Sink};
+use sb_load::Refusal;
+use sb_words::{Command, Settings, WordsError};
 use std::alloc::Global;
 
 /// Does what the words of a command line say, without the program's own name: reads the files that they name from the
 /// shelf, and writes to the sink. The answer is the status: 0 done, 2 no command, 3 a fault of the shelf, 4 a fault of
-/// the sink, 5 want of memory, 6 a program that isn't accepted, 7 a log that isn't, 8 a script that isn't. A refusal's
-/// line is written, but at 4.
+/// the sink, 5 want of memory, 6 a program that isn't accepted, 7 a log that isn't, 8 a script that isn't, 9 a service that
+/// isn't. A refusal's line is written, but at 4.
 pub fn summingbird<H: Shelf, K: Sink>(
     alloc: Global,
     words: &[String],
@@ -33,104 +30,55 @@ pub fn summingbird<H: Shelf, K: Sink>(
         → Ends due (K.written sink.old) (K.written sink.new) result }
 
     // Whatever the shelf tells: the cause of a fault, and of each refusal with its line.
-    ensures shelf { result ≡ 3 → NamesFault (command_of (texts words.now)) (H.faults shelf.old)
+    ensures shelf { result ≡ 3 → NamesFaultOf (command_of (texts words.now)) (H.faults shelf.old)
         (H.faults shelf.new) (K.written sink.old) (K.written sink.new) }
     ensures sink { result ≡ 4 → Rose (K.faults sink.old) (K.faults sink.new) }
     ensures refusals { Refuses (command_of (texts words.now)) (H.faults shelf.old)
         (H.faults shelf.new) result (K.written sink.old) (K.written sink.new) }
 
     // What the call leaves of the shelf, and of the sink's count.
-    ensures frame { Leaves (command_of (texts words.now)) (H.content shelf.old)
+    ensures frame { LeavesOf (command_of (texts words.now)) (H.content shelf.old)
         (H.content shelf.new) (H.faults shelf.old) (H.faults shelf.new) }
     ensures later { K.faults sink.old ≤ K.faults sink.new }
 {
-    carry_out(alloc, shelf, sink, read_words(words))
+    match sb_words::words(alloc, words) {
+        Ok(command) => carry_out(alloc, shelf, sink, &command),
+        Err(WordsError::Usage) => put_usage(sink),
+        Err(WordsError::NoMemory) => put_refusal(sink, &Refusal::NoMemory),
+    }
 }
 
-// Does what a command says; `None` is no command.
-fn carry_out<H: Shelf, K: Sink>(
-    alloc: Global,
-    shelf: &mut H,
-    sink: &mut K,
-    command: Option<Command<'_>>,
-) -> u8
-    requires chunk { IfSome command IsChunked }
-    ensures { Keeps (command_view command.entry) (H.content shelf.old) (H.content shelf.new)
+// Does what a command says.
+fn carry_out<H: Shelf, K: Sink>(alloc: Global, shelf: &mut H, sink: &mut K, command: &Command) -> u8
+    requires within { IsWithin command.now }
+    ensures { Keeps (Some command.now) (H.content shelf.old) (H.content shelf.new)
         (H.faults shelf.old) (H.faults shelf.new) (K.written sink.old) (K.written sink.new)
         (K.faults sink.old) (K.faults sink.new) result }
+{
+    if !is_served(command) {
+        return put_unserved(sink);
+    }
+    match command {
+        Command::Check { .. } => check_command(alloc, command, shelf, sink),
+        Command::Batch { .. } => batch_command(alloc, command, shelf, sink),
+        _ => run_command(alloc, command, shelf, sink),
+    }
+}
+
+fn is_served(command: &Command) -> bool
+    ensures { result ≡ is_served command.now }
 {
     match command {
-        Some(Command::Batch { program, log }) => write_report(alloc, shelf, sink, program, log),
-        Some(
-            Command::Run {
-                program,
-                log,
-                script,
-                chunk,
-            },
-        ) => write_transcript(alloc, shelf, sink, program, log, script, chunk),
-        None => put_refusal(sink, Refusal::Usage),
+        Command::Check { .. } | Command::Batch { .. } => true,
+        Command::Run { settings, .. } => are_served(settings),
+        Command::Audit { .. } | Command::Demo { .. } => false,
     }
 }
 
-// The report of a program over a log.
-fn write_report<H: Shelf, K: Sink>(
-    alloc: Global,
-    shelf: &mut H,
-    sink: &mut K,
-    program: &str,
-    log: &str,
-) -> u8
-    ensures { Keeps (batch program.now log.now) (H.content shelf.old) (H.content shelf.new)
-        (H.faults shelf.old) (H.faults shelf.new) (K.written sink.old) (K.written sink.new)
-        (K.faults sink.old) (K.faults sink.new) result }
+// A run without workers and publisher, with one shard.
+fn are_served(settings: &Settings) -> bool
+    ensures { result ≡ (settings.now.workers == 0
+        && (settings.now.shards == 1 && not settings.now.publisher)) }
 {
-    match sum_log(alloc, shelf, program, log) {
-        Ok(summed) => match put_report(alloc, sink, &summed.family, &summed.rows) {
-            Ok(()) => 0,
-            Err(SinkError::Failed) => 4,
-            Err(SinkError::NoMemory) => put_refusal(sink, Refusal::NoMemory),
-        },
-        Err(refusal) => put_refusal(sink, refusal),
-    }
-}
-
-// The transcript of a script, and the report.
-fn write_transcript<H: Shelf, K: Sink>(
-    alloc: Global,
-    shelf: &mut H,
-    sink: &mut K,
-    program: &str,
-    log: &str,
-    script: &str,
-    chunk: u64,
-) -> u8
-    requires chunk { (1 ≤ chunk) × (chunk ≤ most_records_of_a_chunk) }
-    ensures { Keeps (run program.now log.now script.now chunk) (H.content shelf.old)
-        (H.content shelf.new) (H.faults shelf.old) (H.faults shelf.new) (K.written sink.old)
-        (K.written sink.new) (K.faults sink.old) (K.faults sink.new) result }
-{
-    match prepare(alloc, shelf, program, log, script, chunk) {
-        Ok(prepared) => match answer_all(alloc, sink, prepared) {
-            Ok(()) => 0,
-            Err(SinkError::Failed) => 4,
-            Err(SinkError::NoMemory) => put_refusal(sink, Refusal::NoMemory),
-        },
-        Err(refusal) => put_refusal(sink, refusal),
-    }
-}
-
-// Puts the line of a refusal.
-fn put_refusal<K: Sink>(sink: &mut K, refusal: Refusal) -> u8
-    ensures ends { ((result ≡ (refusal_answer refusal).status)
-        × Appends (refusal_answer refusal).bytes (K.written sink.old) (K.written sink.new))
-        ⊎ (result ≡ 4) ⊎ (result ≡ 5) }
-    ensures later { K.faults sink.old ≤ K.faults sink.new }
-    ensures sink { result ≡ 4 → Rose (K.faults sink.old) (K.faults sink.new) }
-{
-    match sink.put(refusal.line().as_str().as_bytes()) {
-        Ok(()) => refusal.status(),
-        Err(SinkError::Failed) => 4,
-        Err(SinkError::NoMemory) => 5,
-    }
+    settings.workers == 0 && settings.shards == 1 && !settings.publisher
 }

@@ -17,6 +17,8 @@ mod programs;
 #[cfg(test)]
 mod reports;
 #[cfg(test)]
+mod services;
+#[cfg(test)]
 mod sets;
 #[cfg(test)]
 mod sketches;
@@ -30,3 +32,5 @@ mod tokens;
 mod tops;
 #[cfg(test)]
 mod values;
+#[cfg(test)]
+mod words;

@@ -1,14 +1,12 @@
-//! Lines and a report of one store of sums, and the keys of its shard.
+//! A report of one store of sums, and the keys of its shard.
 ghost use Rattle.std.specs.Prelude.{◌≡◌, [], ◌∷◌, IfOk};
-ghost use Rattle.sb_report.specs.Transcript.{NamesStore};
 
 use sb_feed::{Family, KeyBytes, Printed, RowList, Rows};
-use sb_report::{TranscriptLine, report, write_line};
+use sb_report::report;
 use sb_scalars::SumM;
 use sb_shard::Shard;
-use sb_text::{NoMemory, Ranges, Text, write_i64};
+use sb_text::{NoMemory, Text, write_i64};
 use std::alloc::Global;
-use std::process::Abort;
 use std::test::Fail;
 
 // A store of sums with this name.
@@ -106,50 +104,5 @@ fn a_shard_has_the_keys_of_its_rows(rt: HostRuntime) -> Result<(), Fail> {
     assert_eq!(rt; shard.keys(alloc)?.len(), 0);
     shard.install(rows_of(alloc, "a", 7)?)?;
     assert_eq!(rt; shard.keys(alloc)?.len(), 1);
-    Ok(())
-}
-
-fn expect_line(
-    rt: &impl Abort,
-    alloc: Global,
-    line: &TranscriptLine,
-    expected: &str,
-) -> Result<(), NoMemory>
-    requires { NamesStore 1 line.now }
-{
-    let mut out = Vec::new(alloc);
-    write_line(alloc, &total(alloc)?, line, &mut out)?;
-    assert_eq!(rt; out.as_slice(), expected.as_bytes());
-    Ok(())
-}
-
-#[test]
-fn a_read_beside_a_floor_and_with_holes_in_its_cover(rt: HostRuntime) -> Result<(), Fail> {
-    let alloc = rt.alloc();
-    let mut cover = Ranges::new(alloc);
-    cover.insert(0)?;
-    cover.insert(1)?;
-    cover.insert(3)?;
-    let line = TranscriptLine::Read {
-        store: 0,
-        key: text(alloc, "a")?,
-        value: text(alloc, "3")?,
-        published: 2,
-        floor: 1,
-        cover,
-    };
-    expect_line(&rt, alloc, &line, "read total a 3 p=2 f=1 c=0-1,3-3\n")?;
-    Ok(())
-}
-
-#[test]
-fn a_row_as_a_line(rt: HostRuntime) -> Result<(), Fail> {
-    let alloc = rt.alloc();
-    let line = TranscriptLine::Row {
-        store: 0,
-        key: text(alloc, "a")?,
-        value: text(alloc, "3")?,
-    };
-    expect_line(&rt, alloc, &line, "total\ta\t3\n")?;
     Ok(())
 }

@@ -1,0 +1,6 @@
+pub mod Causes
+pub mod Commands
+pub mod Inputs
+pub mod Limits
+pub mod Refusals
+pub mod Steps

@@ -1,0 +1,33 @@
+use Rattle.std.proofs.Common.{◌∙◌, length, map, sym, ap, subst}
+use Rattle.std.specs.List.{AllByRecursion}
+use Rattle.sb_check.specs.OnlineView.{online_of}
+use Rattle.sb_load.specs.Steps.{records_of}
+use Rattle.sb_report.specs.Script.{AsksOf}
+use Rattle.sb_service.specs.Views.{view_service}
+use Rattle.sb_run.specs.Answering.{Serves}
+use Rattle.sb_run.specs.Run.{run_of}
+use Rattle.sb_run.proofs.Serving.{serves}
+use Rattle.sb_run.proofs.live.answer_script.Goals as goal
+
+pub answer_all-requires : goal.answer_all-requires
+answer_all-requires g c κs within =
+    let said = online_of c.args.program.now in
+    let log = records_of c.args.log.now in
+    let services = map view_service c.args.services.now in
+    let feed = c.in-Ok.feed in
+    let cut = c.in-Some.cut in
+    let cut_is = c.in-Some.ensures.cut in
+    let run_is = ap (λ n. run_of said n 1 log services) (ap (λ x. x.chunk) cut_is) ∙ sym c.requires.1.0 in
+    let base = serves said log services feed c.in-Ok.ensures cut (ap (λ x. x.shards) cut_is) in (
+      within,
+      (
+        subst (λ q. Serves q feed cut g.run) (sym c.checked.ensures.value) (subst (λ r. Serves said feed cut r) run_is base),
+        (
+          ap (λ x. x.records) cut_is ∙ c.len.ensures.len,
+          (
+            ap (λ x. x.shards) cut_is,
+            subst (λ q. AllByRecursion (AsksOf (length q.declared.stores)) c.args.asks.items) (sym c.checked.ensures.value) c.requires.1.1.1.1.1.1,
+          ),
+        ),
+      ),
+    )
