@@ -19,7 +19,7 @@ use sb_types::Val;
 use std::alloc::Global;
 
 /// The position of a record in its log, from 0, a key, and the element that the value at it gives.
-#[derive(Debug, Drop)]
+#[derive(Drop)]
 pub struct Emitted {
     pub position: u64,
     pub key: Val,

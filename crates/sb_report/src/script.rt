@@ -26,7 +26,7 @@ const LINE_LIMIT: u64 = 65_536;
 const NUMBER_LIMIT: u64 = 65_536;
 
 /// What a line of a script asks.
-#[derive(Debug, Drop)]
+#[derive(Drop)]
 pub enum Ask {
     /// The sum of a key of a store. The key is its text.
     Read { store: u32, key: Text },

@@ -126,10 +126,7 @@ fn each_keyword_is_read_as_itself(rt: HostRuntime) -> Result<(), Fail> {
     let mut written = Vec::new(rt.alloc());
     for _ in 0..46 {
         if let Ok(Some((_, Token::Keyword(keyword)))) = tokens.next_token() {
-            assert_eq!(rt;
-                Keyword::from_bytes(keyword.text().as_bytes()),
-                Some(keyword)
-            );
+            assert!(rt; Keyword::from_bytes(keyword.text().as_bytes()) == Some(keyword));
             let text = keyword.to_text(rt.alloc())?;
             written.extend_from_slice(text.as_bytes())?;
             written.push(b' ')?;
@@ -137,7 +134,7 @@ fn each_keyword_is_read_as_itself(rt: HostRuntime) -> Result<(), Fail> {
     }
     written.pop();
     assert_eq!(rt; written.as_slice(), words.as_bytes());
-    assert_eq!(rt; Keyword::from_bytes(b"name"), None);
+    assert!(rt; Keyword::from_bytes(b"name").is_none());
     Ok(())
 }
 
