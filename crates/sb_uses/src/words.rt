@@ -1,4 +1,5 @@
 //! The words of command lines.
+use crate::expecting::{equal, holds};
 use sb_text::Text;
 use sb_words::{Command, Settings, WordsError, words};
 use std::alloc::{AllocError, Global};
@@ -20,7 +21,10 @@ fn text_is(text: &Text, expected: &str) -> bool {
 fn words_are_commands(rt: HostRuntime) -> Result<(), Fail> {
     let alloc = rt.alloc();
     let check = words(alloc, &words_of(alloc, "check -- -p")?)?;
-    assert!(rt; matches!(check, Command::Check { program } if text_is(&program, "-p")));
+    holds(
+        &rt,
+        matches!(check, Command::Check { program } if text_is(&program, "-p")),
+    );
     let batch = words(alloc, &words_of(alloc, "batch P L b=y=z")?)?;
     let Command::Batch {
         program,
@@ -28,13 +32,13 @@ fn words_are_commands(rt: HostRuntime) -> Result<(), Fail> {
         services,
     } = batch
     else {
-        return Ok(assert!(rt; false));
+        return Ok(holds(&rt, false));
     };
-    assert!(rt; text_is(&program, "P") && text_is(&log, "L"));
+    holds(&rt, text_is(&program, "P") && text_is(&log, "L"));
     let [(name, file)] = services.as_slice() else {
-        return Ok(assert!(rt; false));
+        return Ok(holds(&rt, false));
     };
-    assert!(rt; text_is(name, "b") && text_is(file, "y=z"));
+    holds(&rt, text_is(name, "b") && text_is(file, "y=z"));
     for line in [
         "",
         "check P --help",
@@ -43,7 +47,10 @@ fn words_are_commands(rt: HostRuntime) -> Result<(), Fail> {
         "demo 1 1048577 0",
     ] {
         let all = words_of(rt.alloc(), line)?;
-        assert!(rt; matches!(words(rt.alloc(), &all), Err(WordsError::Usage)));
+        holds(
+            &rt,
+            matches!(words(rt.alloc(), &all), Err(WordsError::Usage)),
+        );
     }
     Ok(())
 }
@@ -58,7 +65,7 @@ fn settings_have_defaults(rt: HostRuntime) -> Result<(), Fail> {
         ..
     } = words(alloc, &words_of(alloc, line)?)?
     else {
-        return Ok(assert!(rt; false));
+        return Ok(holds(&rt, false));
     };
     let expected = Settings {
         workers: 0,
@@ -69,7 +76,7 @@ fn settings_have_defaults(rt: HostRuntime) -> Result<(), Fail> {
         publisher: true,
         keep: Some(2),
     };
-    assert_eq!(rt; services.len(), 2);
-    assert!(rt; settings == expected);
+    equal(&rt, services.len(), 2);
+    holds(&rt, settings == expected);
     Ok(())
 }
