@@ -174,3 +174,14 @@ fn a_sum_in_any_order(rt: HostRuntime) -> Result<(), Fail> {
     }
     Ok(())
 }
+
+#[test]
+fn a_set_is_read_by_its_order(rt: HostRuntime) -> Result<(), Fail> {
+    let alloc = rt.alloc();
+    let m = KindM::new(kind_of(&rt, alloc, &Mono::Set)?);
+    for (bytes, again) in [("{-7,5}", "{-7,5}"), ("{5,-7}", ""), ("{5,5}", "")] {
+        let text = text_again(alloc, &m, &Ty::Int, bytes.as_bytes())?;
+        equal(&rt, text.as_slice(), again.as_bytes());
+    }
+    Ok(())
+}
