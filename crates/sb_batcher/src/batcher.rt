@@ -6,7 +6,7 @@ use std::marker::Model;
 
 /// Batches of time: batch 0 begins at a given time, and each batch is as long as the others. Times and lengths are in
 /// milliseconds.
-#[derive(Clone, Copy, Debug)]
+#[derive(Clone, Copy)]
 pub struct Batcher {
     length: u64,
     from: i64,

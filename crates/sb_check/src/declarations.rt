@@ -11,14 +11,14 @@ use sb_types::{Fields, Ty};
 use sqlite_items::Items;
 
 /// A source, and the fields of its records.
-#[derive(Debug, Drop)]
+#[derive(Drop)]
 pub struct SourceDecl {
     pub name: Text,
     pub fields: Fields,
 }
 
 /// A service, and the types of its keys and of what it has at them.
-#[derive(Debug, Drop)]
+#[derive(Drop)]
 pub struct ServiceDecl {
     pub name: Text,
     pub key: Ty,
@@ -26,7 +26,7 @@ pub struct ServiceDecl {
 }
 
 /// A stream, the type of its values, and how many of them a record gives at most.
-#[derive(Debug, Drop)]
+#[derive(Drop)]
 pub struct Streamed {
     pub flow: Flow,
     pub ty: Ty,
@@ -36,7 +36,7 @@ pub struct Streamed {
 }
 
 /// A stream with a name.
-#[derive(Debug, Drop)]
+#[derive(Drop)]
 pub struct LetDecl {
     pub name: Text,
     pub stream: Streamed,

@@ -18,7 +18,7 @@ const OFFSET_BASIS: u64 = 14695981039346656037;
 const PRIME: u64 = 1099511628211;
 
 /// How a log is divided: its records into chunks, and the keys among shards.
-#[derive(Debug, Drop)]
+#[derive(Drop)]
 pub struct Cut {
     records: u64,
     chunk: u64,

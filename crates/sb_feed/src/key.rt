@@ -8,7 +8,7 @@ use std::cmp::Ordering;
 use std::hash::{Hash, Hasher};
 
 /// A key of a store: the store's number and the text of the key. Ordered by store, and then by the text's bytes.
-#[derive(Debug, Drop)]
+#[derive(Drop)]
 pub struct KeyBytes {
     pub store: u32,
     pub text: Text,

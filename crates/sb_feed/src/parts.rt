@@ -4,7 +4,7 @@ use sb_laws::Items;
 use sb_text::Ranges;
 
 /// What a record adds to a key: a value, in the record's batch, which is at most 65,535.
-#[derive(Debug, Drop)]
+#[derive(Drop)]
 pub struct Part<E> {
     pub key: KeyBytes,
     pub batch: u64,
@@ -15,7 +15,7 @@ pub struct Part<E> {
 pub type PartList<E> = Items<Part<E>>;
 
 /// The parts of the records of some chunks.
-#[derive(Debug, Drop)]
+#[derive(Drop)]
 pub struct Parcel<E> {
     pub chunks: Ranges,
     pub parts: PartList<E>,

@@ -9,7 +9,7 @@ use std::alloc::Global;
 use std::marker::Model;
 
 /// Keys with a value each, in rising order of the keys.
-#[derive(Debug, Drop)]
+#[derive(Drop)]
 pub struct RowList<E> {
     rows: Vec<(KeyBytes, E)>,
 }
@@ -89,7 +89,7 @@ impl<E> RowList<E> {
 }
 
 /// The sum of each key over the batches from `from` on and below `to`.
-#[derive(Debug, Drop)]
+#[derive(Drop)]
 pub struct Rows<E> {
     pub from: u64,
     pub to: u64,
@@ -97,7 +97,7 @@ pub struct Rows<E> {
 }
 
 /// The sums of a key, one a batch, in rising order of the batches.
-#[derive(Debug, Drop)]
+#[derive(Drop)]
 pub struct Sums<E> {
     sums: Vec<(u64, E)>,
 }

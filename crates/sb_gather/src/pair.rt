@@ -5,7 +5,7 @@ use sb_laws::{Commuting, Monoid, NoMemory, Semigroup, Undo};
 use std::alloc::Global;
 
 /// A left and a right part.
-#[derive(Debug, Drop)]
+#[derive(Drop)]
 pub struct Both<X, Y> {
     pub left: X,
     pub right: Y,

@@ -4,7 +4,7 @@ use sb_text::Text;
 use sqlite_items::Boxed;
 
 /// A type of single values.
-#[derive(Clone, Copy, Debug)]
+#[derive(Clone, Copy)]
 pub enum Scalar {
     Int,
     Text,
@@ -12,7 +12,7 @@ pub enum Scalar {
 }
 
 /// A type as it is written.
-#[derive(Debug, Drop)]
+#[derive(Drop)]
 pub enum TypeTree {
     Scalar(Scalar),
     Pair(Boxed<TypeTree>, Boxed<TypeTree>),
@@ -23,7 +23,7 @@ pub enum TypeTree {
 
 /// An expression; `Plain` is one without `if`.
 #[cycle(expr)]
-#[derive(Debug, Drop)]
+#[derive(Drop)]
 pub enum Expr {
     If(Boxed<Expr>, Boxed<Expr>, Boxed<Expr>),
     Plain(Disj),
@@ -31,7 +31,7 @@ pub enum Expr {
 
 /// Conjunctions with `or` between.
 #[cycle(expr)]
-#[derive(Debug, Drop)]
+#[derive(Drop)]
 pub struct Disj {
     pub first: Conj,
     pub rest: Many<Conj>,
@@ -39,7 +39,7 @@ pub struct Disj {
 
 /// Negations with `and` between.
 #[cycle(expr)]
-#[derive(Debug, Drop)]
+#[derive(Drop)]
 pub struct Conj {
     pub first: Neg,
     pub rest: Many<Neg>,
@@ -47,7 +47,7 @@ pub struct Conj {
 
 /// A comparison, or one behind `not`.
 #[cycle(expr)]
-#[derive(Debug, Drop)]
+#[derive(Drop)]
 pub enum Neg {
     Not(Boxed<Neg>),
     Plain(Cmp),
@@ -55,14 +55,14 @@ pub enum Neg {
 
 /// A sum, or a comparison of two.
 #[cycle(expr)]
-#[derive(Debug, Drop)]
+#[derive(Drop)]
 pub enum Cmp {
     Plain(Add),
     Both(CmpOp, Add, Add),
 }
 
 /// The operator of a comparison.
-#[derive(Clone, Copy, Debug)]
+#[derive(Clone, Copy)]
 pub enum CmpOp {
     Equal,
     Unequal,
@@ -74,7 +74,7 @@ pub enum CmpOp {
 
 /// Products with `+` or `-` between.
 #[cycle(expr)]
-#[derive(Debug, Drop)]
+#[derive(Drop)]
 pub struct Add {
     pub first: Prod,
     pub rest: Many<AddRest>,
@@ -82,7 +82,7 @@ pub struct Add {
 
 /// A further product, with its sign.
 #[cycle(expr)]
-#[derive(Debug, Drop)]
+#[derive(Drop)]
 pub enum AddRest {
     Plus(Prod),
     Minus(Prod),
@@ -90,7 +90,7 @@ pub enum AddRest {
 
 /// Factors, from the left.
 #[cycle(expr)]
-#[derive(Debug, Drop)]
+#[derive(Drop)]
 pub struct Prod {
     pub first: Unary,
     pub rest: Many<ProdRest>,
@@ -98,7 +98,7 @@ pub struct Prod {
 
 /// What a product is multiplied with or divided by.
 #[cycle(expr)]
-#[derive(Debug, Drop)]
+#[derive(Drop)]
 pub enum ProdRest {
     Times(Unary),
     /// The divisor isn't 0.
@@ -109,7 +109,7 @@ pub enum ProdRest {
 
 /// An atom with its steps, or one behind a minus.
 #[cycle(expr)]
-#[derive(Debug, Drop)]
+#[derive(Drop)]
 pub enum Unary {
     Minus(Boxed<Unary>),
     Plain(Post),
@@ -117,14 +117,14 @@ pub enum Unary {
 
 /// An atom, and the steps behind it.
 #[cycle(expr)]
-#[derive(Debug, Drop)]
+#[derive(Drop)]
 pub struct Post {
     pub atom: Atom,
     pub steps: Many<PostStep>,
 }
 
 /// `.name`, `.1` or `.2`.
-#[derive(Debug, Drop)]
+#[derive(Drop)]
 pub enum PostStep {
     Field(Text),
     First,
@@ -133,7 +133,7 @@ pub enum PostStep {
 
 /// The least parts of expressions; groups in parentheses are kept.
 #[cycle(expr)]
-#[derive(Debug, Drop)]
+#[derive(Drop)]
 pub enum Atom {
     Int(u64),
     Text(Text),

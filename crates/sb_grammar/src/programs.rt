@@ -7,7 +7,7 @@ use sqlite_items::{Boxed, Items};
 pub type Many<T> = Items<T>;
 
 /// A program text's tree.
-#[derive(Debug, Drop)]
+#[derive(Drop)]
 pub struct Program {
     /// How long a batch is, in milliseconds; not 0.
     pub length: u64,
@@ -19,7 +19,7 @@ pub struct Program {
 }
 
 /// A statement behind the batch head.
-#[derive(Debug, Drop)]
+#[derive(Drop)]
 pub enum Statement {
     Source {
         name: Text,
@@ -42,7 +42,7 @@ pub enum Statement {
 }
 
 /// A field of a source.
-#[derive(Debug, Drop)]
+#[derive(Drop)]
 pub struct FieldTree {
     pub name: Text,
     pub scalar: Scalar,
@@ -50,7 +50,7 @@ pub struct FieldTree {
 
 /// A stream: its head, and the stages behind it.
 #[cycle(stream)]
-#[derive(Debug, Drop)]
+#[derive(Drop)]
 pub struct Stream {
     pub head: Head,
     pub stages: Many<Stage>,
@@ -58,14 +58,14 @@ pub struct Stream {
 
 /// A stream's name, or two streams in one.
 #[cycle(stream)]
-#[derive(Debug, Drop)]
+#[derive(Drop)]
 pub enum Head {
     Name(Text),
     Merge(Boxed<Stream>, Boxed<Stream>),
 }
 
 /// What is done with each value of a stream.
-#[derive(Debug, Drop)]
+#[derive(Drop)]
 pub enum Stage {
     Map(Expr),
     Filter(Expr),
@@ -74,7 +74,7 @@ pub enum Stage {
 }
 
 /// A monoid as it is written.
-#[derive(Debug, Drop)]
+#[derive(Drop)]
 pub enum MonoTree {
     Sum,
     Min,

@@ -9,14 +9,14 @@ use std::alloc::{AllocError, Global};
 /// Want of memory.
 pub type NoMemory = AllocError;
 
-#[derive(Debug, Drop)]
+#[derive(Drop)]
 struct MemFile {
     name: Vec<u8>,
     bytes: Vec<u8>,
 }
 
 /// Files in memory.
-#[derive(Debug, Drop)]
+#[derive(Drop)]
 pub struct MemShelf {
     alloc: Global,
     files: Vec<MemFile>,
@@ -134,7 +134,7 @@ impl Shelf for MemShelf {
 }
 
 /// Bytes in memory.
-#[derive(Debug, Drop)]
+#[derive(Drop)]
 pub struct MemSink {
     bytes: Vec<u8>,
     faults: u64,

@@ -6,7 +6,7 @@ use std::alloc::Global;
 use thiserror::Error;
 
 /// A whole file, or the news that it has more bytes than were asked for.
-#[derive(Debug, Drop)]
+#[derive(Drop)]
 pub enum Fetched {
     All(Vec<u8>),
     Longer,

@@ -14,7 +14,7 @@ pub type Tops = Scored<Text>;
 pub type Aggs = Many<(Val, Agg)>;
 
 /// The element of any kind.
-#[derive(Debug, Drop)]
+#[derive(Drop)]
 pub enum Agg {
     Sum(i64),
     Min(i64),

@@ -5,7 +5,7 @@ use std::alloc::Global;
 use std::marker::Model;
 
 /// A `Vec` inside a type that leads back to itself. Contracts see the list of its elements, without its room.
-#[derive(Debug, Drop)]
+#[derive(Drop)]
 pub struct Many<T> {
     items: Vec<T>,
 }

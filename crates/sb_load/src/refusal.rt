@@ -20,7 +20,7 @@ pub enum Which {
 }
 
 /// What is wrong with a statement.
-#[derive(Clone, Copy, Debug, PartialEq, Eq)]
+#[derive(Clone, Copy, PartialEq, Eq)]
 pub enum CheckKind {
     Unknown,
     Twice,

@@ -56,7 +56,8 @@ fn fetch_each<H: Shelf>(
     files: &[(Text, Text)],
     services: &[ServiceDecl],
 ) -> Result<Vec<Service>, Refusal>
-    ensures read { TellsAll (LoadsEach (H.content shelf.old) files.now (map service_of services.now))
+    ensures read { TellsAll (LoadsEach (H.content shelf.old) files.now
+        (map service_of services.now))
         (λ all. map view_service all.items) result }
     ensures frame { (command : Command) → files_of command ≡ files.now
         → Leaves command (H.content shelf.old) (H.content shelf.new) (H.faults shelf.old)

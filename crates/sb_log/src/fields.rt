@@ -48,7 +48,8 @@ fn read_each(alloc: Global, fields: &[Field], columns: &mut Columns<'_>) -> Resu
 
 #[tactic(auto, using(crate::proofs::FieldColumns::same_value))]
 fn read_value(alloc: Global, ty: &Ty, bytes: &[u8]) -> Result<Option<Val>, NoMemory>
-    ensures { IfOk result (λ value. option_map value_of value ≡ value_in (type_of ty.now) bytes.now) }
+    ensures { IfOk result (λ value. option_map value_of value
+        ≡ value_in (type_of ty.now) bytes.now) }
 {
     read_field(alloc, ty, bytes)
 }

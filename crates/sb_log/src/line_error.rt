@@ -6,7 +6,7 @@ use sb_check::LineKind;
 use std::alloc::AllocError;
 
 /// Why a line isn't read: the first thing that is wrong with it, or want of memory.
-#[derive(Clone, Copy, Debug)]
+#[derive(Clone, Copy)]
 pub enum LineError {
     Bad(LineKind),
     NoMemory,

@@ -61,7 +61,8 @@ fn read_columns(
 
 // The source of this name, with its number.
 fn find_source<'a>(sources: &'a [SourceDecl], name: &[u8]) -> Option<(u64, &'a SourceDecl)>
-    ensures { option_map found_view result ≡ found (λ s. s.name) name.now (map source_of sources.now) }
+    ensures { option_map found_view result
+        ≡ found (λ s. s.name) name.now (map source_of sources.now) }
 {
     for (at, source) in sources.iter().enumerate() {
         if name == source.name.as_bytes() {

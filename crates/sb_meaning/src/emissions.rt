@@ -19,7 +19,7 @@ use sb_types::Val;
 use std::alloc::Global;
 
 /// The position of a record in its log, from 0, a key, and the element that the value at it gives.
-#[derive(Debug, Drop)]
+#[derive(Drop)]
 pub struct Emitted {
     pub position: u64,
     pub key: Val,
@@ -52,7 +52,8 @@ pub fn emit_all(
 fn prepare_all(alloc: Global, kind: &Kind, values: Vec<At>) -> Result<Vec<Emitted>, NoMemory>
     ensures value { IfOk result (λ all. map emission_of all.items
         ≡ map (emission (monoid_of kind.now)) (map at_of values.items)) }
-    ensures valid { IfOk result (λ all. AllByRecursion (λ e. IsOf (monoid_of kind.now) e.value) all.items) }
+    ensures valid { IfOk result (λ all. AllByRecursion (λ e. IsOf (monoid_of kind.now) e.value)
+        all.items) }
 {
     let mut all = Vec::with_capacity(alloc, values.len())?;
     for x in values {

@@ -52,7 +52,8 @@ pub fn value(alloc: Global, term: &Term, it: &Val) -> Result<Val, NoMemory>
 
 #[cycle(value)]
 fn values(alloc: Global, terms: &[Term], it: &Val) -> Result<Vec<Val>, NoMemory>
-    ensures { IfOk result (λ vs. map value_of vs.items ≡ map (λ f. f (value_of it.now)) (map ev terms.now)) }
+    ensures { IfOk result (λ vs. map value_of vs.items
+        ≡ map (λ f. f (value_of it.now)) (map ev terms.now)) }
 {
     let mut values = Vec::with_capacity(alloc, terms.len())?;
     for term in terms {

@@ -25,7 +25,8 @@ pub fn stream(
     lets: &Items<Vec<At>>,
 ) -> Result<Vec<At>, NoMemory>
     ensures { IfOk result (λ out. map at_of out.items
-        ≡ stream_of flow.now (map logged_of log.now) (map view_service services.now) (map (λ l. map at_of l.items) lets.now)) }
+        ≡ stream_of flow.now (map logged_of log.now) (map view_service services.now)
+        (map (λ l. map at_of l.items) lets.now)) }
 {
     match flow {
         Flow::Source(source) => records(alloc, *source, log),
@@ -55,7 +56,8 @@ pub fn stream(
 }
 
 fn let_at(alloc: Global, number: u64, lets: &Items<Vec<At>>) -> Result<Vec<At>, NoMemory>
-    ensures { IfOk result (λ out. map at_of out.items ≡ list_at number (map (λ l. map at_of l.items) lets.now)) }
+    ensures { IfOk result (λ out. map at_of out.items
+        ≡ list_at number (map (λ l. map at_of l.items) lets.now)) }
 {
     match lets.get(number as usize) {
         Some(values) => copy_all(alloc, values),
@@ -81,7 +83,8 @@ pub fn let_lists(
     services: &[Service],
 ) -> Result<Items<Vec<At>>, NoMemory>
     ensures { IfOk result (λ out. map (λ l. map at_of l.items) out
-        ≡ lets_of (map logged_of log.now) (map view_service services.now) [] (map (λ l. l.stream.flow) (map let_of lets.now))) }
+        ≡ lets_of (map logged_of log.now) (map view_service services.now) []
+        (map (λ l. l.stream.flow) (map let_of lets.now))) }
 {
     let mut out = Items::new(alloc);
     for bound in lets {

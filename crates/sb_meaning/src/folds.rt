@@ -35,7 +35,8 @@ pub fn slow_fold(
     take: &Ranges,
 ) -> Result<Option<Agg>, NoMemory>
     requires { store < length (checked_of c.now).declared.stores }
-    ensures { IfOk result (λ sum. sum ≡ fold_of (checked_of c.now) (logged_in log.now) (map view_service services.now)
+    ensures { IfOk result (λ sum. sum
+        ≡ fold_of (checked_of c.now) (logged_in log.now) (map view_service services.now)
         store (value_of key.now) (is_in take.now)) }
 {
     let all = emit_all(alloc, c, log, services, store)?;
@@ -75,7 +76,8 @@ fn push_picked(
     take: &Ranges,
     elements: &mut Vec<Agg>,
 ) -> Result<(), NoMemory>
-    ensures { (rest : List Emission) → OnOk result (elements.new.items ++ picked (value_of key.now) (is_in take.now) rest
+    ensures { (rest : List Emission) → OnOk result (elements.new.items
+        ++ picked (value_of key.now) (is_in take.now) rest
         ≡ elements.old.items ++ picked (value_of key.now) (is_in take.now) (emission_of e ∷ rest)) }
 {
     if has_key(&e, key) && is_taken(take, e.position) {

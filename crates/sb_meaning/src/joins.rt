@@ -22,7 +22,8 @@ pub fn joined(
     values: Vec<At>,
 ) -> Result<Vec<At>, NoMemory>
     ensures { IfOk result (λ out. map at_of out.items
-        ≡ spec.joined (spec.list_at number (map view_service services.now)) (map at_of values.items)) }
+        ≡ spec.joined (spec.list_at number (map view_service services.now))
+        (map at_of values.items)) }
 {
     let mut out = Vec::with_capacity(alloc, values.len())?;
     for x in values {
@@ -42,7 +43,8 @@ fn join(alloc: Global, number: u64, services: &[Service], value: Val) -> Result<
 
 fn row_at(alloc: Global, number: u64, services: &[Service], key: &Val) -> Result<Val, NoMemory>
     ensures { IfOk result (λ v. value_of v
-        ≡ spec.option_value (row_of (value_of key.now) (spec.list_at number (map view_service services.now)))) }
+        ≡ spec.option_value (row_of (value_of key.now)
+        (spec.list_at number (map view_service services.now)))) }
 {
     match sqlite_items::at(services, number as usize) {
         Some(service) => copy_option(alloc, service.get(key)),
@@ -51,7 +53,8 @@ fn row_at(alloc: Global, number: u64, services: &[Service], key: &Val) -> Result
 }
 
 fn copy_option(alloc: Global, found: Option<&Val>) -> Result<Val, NoMemory>
-    ensures { IfOk result (λ v. value_of v ≡ spec.option_value (option_map (λ f. value_of f.now) found.entry)) }
+    ensures { IfOk result (λ v. value_of v
+        ≡ spec.option_value (option_map (λ f. value_of f.now) found.entry)) }
 {
     match found {
         Some(value) => wrapped(alloc, copy(alloc, value)?),

@@ -18,7 +18,8 @@ pub type At = (u64, Val);
 
 /// The records of a source.
 pub fn records(alloc: Global, source: u64, log: &[LogRecord]) -> Result<Vec<At>, NoMemory>
-    ensures { IfOk result (λ out. map at_of out.items ≡ spec.records source (map logged_of log.now)) }
+    ensures { IfOk result (λ out. map at_of out.items
+        ≡ spec.records source (map logged_of log.now)) }
 {
     let mut out = Vec::new(alloc);
     for line in log {
@@ -41,7 +42,8 @@ fn fields(alloc: Global, from: &LogRecord) -> Result<Val, NoMemory>
 
 /// The value of the expression in the place of each value.
 pub fn mapped(alloc: Global, term: &Term, values: &[At]) -> Result<Vec<At>, NoMemory>
-    ensures { IfOk result (λ out. map at_of out.items ≡ spec.mapped term.now (map at_of values.now)) }
+    ensures { IfOk result (λ out. map at_of out.items
+        ≡ spec.mapped term.now (map at_of values.now)) }
 {
     let mut out = Vec::with_capacity(alloc, values.len())?;
     for x in values {
@@ -52,7 +54,8 @@ pub fn mapped(alloc: Global, term: &Term, values: &[At]) -> Result<Vec<At>, NoMe
 
 /// The values of which the expression is true, moved.
 pub fn filtered(alloc: Global, term: &Term, values: Vec<At>) -> Result<Vec<At>, NoMemory>
-    ensures { IfOk result (λ out. map at_of out.items ≡ spec.filtered term.now (map at_of values.items)) }
+    ensures { IfOk result (λ out. map at_of out.items
+        ≡ spec.filtered term.now (map at_of values.items)) }
 {
     let mut out = Vec::new(alloc);
     for x in values {
@@ -72,7 +75,8 @@ fn is_true(alloc: Global, term: &Term, it: &Val) -> Result<bool, NoMemory>
 
 /// The elements of each list in its place.
 pub fn flat_mapped(alloc: Global, term: &Term, values: &[At]) -> Result<Vec<At>, NoMemory>
-    ensures { IfOk result (λ out. map at_of out.items ≡ spec.flat_mapped term.now (map at_of values.now)) }
+    ensures { IfOk result (λ out. map at_of out.items
+        ≡ spec.flat_mapped term.now (map at_of values.now)) }
 {
     let mut out = Vec::new(alloc);
     for x in values {
@@ -83,7 +87,8 @@ pub fn flat_mapped(alloc: Global, term: &Term, values: &[At]) -> Result<Vec<At>,
 }
 
 fn push_elements(alloc: Global, position: u64, list: Val, out: &mut Vec<At>) -> Result<(), NoMemory>
-    ensures { OnOk result (map at_of out.new.items ≡ map at_of out.old.items ++ spec.elements_at position (value_of list)) }
+    ensures { OnOk result (map at_of out.new.items ≡ map at_of out.old.items
+        ++ spec.elements_at position (value_of list)) }
 {
     let mut turned = turned(alloc, into_elements(alloc, list))?;
     while let Some(element) = turned.pop() {

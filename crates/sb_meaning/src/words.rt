@@ -22,7 +22,8 @@ pub fn lower(alloc: Global, bytes: &[u8]) -> Result<Val, NoMemory>
 /// The first words of a text, at most this many: what isn't empty between tabs, LFs, CRs and spaces.
 pub fn words(alloc: Global, most: u64, bytes: &[u8]) -> Result<Val, NoMemory>
     requires { IsUtf8 bytes.now }
-    ensures { IfOk result (λ v. value_of v ≡ list (values_of (map text (words_of most bytes.now)))) }
+    ensures { IfOk result (λ v. value_of v
+        ≡ list (values_of (map text (words_of most bytes.now)))) }
 {
     Ok(listed(found_words(alloc, most, bytes)?))
 }

@@ -11,7 +11,7 @@ use sb_text::{NoMemory, Ranges, Text, write_u64};
 use std::alloc::Global;
 
 /// A line of a transcript. Keys and values are the texts that are printed.
-#[derive(Debug, Drop)]
+#[derive(Drop)]
 pub enum TranscriptLine {
     /// The value of a key over the published batches and the chunks of the cover; `published` is at most 65,536.
     Read {

@@ -26,7 +26,7 @@ const LINE_LIMIT: u64 = 65_536;
 const NUMBER_LIMIT: u64 = 65_536;
 
 /// What a line of a script asks.
-#[derive(Debug, Drop)]
+#[derive(Drop)]
 pub enum Ask {
     /// The sum of a key of a store. The key is its text.
     Read { store: u32, key: Text },
@@ -183,7 +183,8 @@ fn read_up_to_limit(bytes: &[u8]) -> Option<u64>
 
 // The key's text, where it is that of a value of the type. Texts of values are UTF-8, so what isn't is none.
 fn read_key(alloc: Global, ty: &Ty, key: &[u8]) -> Result<Option<Text>, NoMemory>
-    ensures { IfOk result (λ text. text ≡ (if is_text_of (type_of ty.now) key.now then Some key.now else
+    ensures { IfOk result (λ text. text
+        ≡ (if is_text_of (type_of ty.now) key.now then Some key.now else
         None)) }
 {
     match read_front(alloc, ty, key)? {

@@ -10,7 +10,12 @@ use anyhow::{Context, ensure};
 use checking::agrees;
 use reading::Reader;
 use std::rt::{Env, Files};
-use std::{env, fs};
+use std::thread::Builder;
+use std::{env, fs, thread};
+
+// The stack of the thread that runs the rows, in bytes. The deepest programs nest 124 expressions, and in code that
+// isn't optimized each of them takes some 64 KiB.
+const STACK: usize = 64 << 20;
 
 // Runs the rows of a text, and tells how many differ.
 fn run_rows<R: Print + AllocGlobal>(rt: &R, text: &str) -> anyhow::Result<u64> {
@@ -47,7 +52,13 @@ fn run_files<R: Env + Files + Print + AllocGlobal>(rt: &R) -> anyhow::Result<u64
 }
 
 fn main(rt: HostRuntime) -> anyhow::Result<()> {
-    let differing = run_files(&rt)?;
+    let differing = thread::scope(thread::scope_env(), &rt, |scope| {
+        let stack = Builder::new().stack_size(STACK);
+        match stack.spawn_scoped(scope, || run_files(&rt)) {
+            Ok(rows) => rows.join(&rt),
+            Err(error) => Err(error.into()),
+        }
+    })?;
     ensure!(differing == 0, "{differing} rows differ");
     Ok(())
 }

@@ -42,8 +42,10 @@ pub fn answer_all<K: Sink>(
     requires serves { Serves (checked_of c.now) feed.now cut run }
     requires records { cut.records ≡ length feed.now.records }
     requires one { cut.shards ≡ 1 }
-    requires stores { AllByRecursion (AsksOf (length (checked_of c.now).declared.stores)) asks.items }
-    ensures ok { OnOk result (Appends (run_text run asks.items) (K.written sink.old) (K.written sink.new)) }
+    requires stores { AllByRecursion (AsksOf (length (checked_of c.now).declared.stores))
+        asks.items }
+    ensures ok { OnOk result (Appends (run_text run asks.items) (K.written sink.old) (K.written
+        sink.new)) }
     ensures cause { HasSinkCause (K.faults sink.old) (K.faults sink.new) result }
 {
     let mut session = Session::new(alloc, feed, cut);
@@ -64,7 +66,8 @@ fn put_answers<K: Sink>(
     ghost run: { Run Agg }
     requires serves { Serves (checked_of c.now) feed.now session.old.cut run }
     requires over { IsOverFeed feed.now session.old }
-    requires stores { AllByRecursion (AsksOf (length (checked_of c.now).declared.stores)) asks.items }
+    requires stores { AllByRecursion (AsksOf (length (checked_of c.now).declared.stores))
+        asks.items }
     ensures ok { OnOk result (Appends (lines_text (store_name (checked_of c.now).declared)
         (script_lines run (progress session.old) asks.items)) (K.written sink.old)
         (K.written sink.new)) }
@@ -93,7 +96,8 @@ fn put_answer<K: Sink>(
     ensures ok { OnOk result (Appends (line_text (store_name (checked_of c.now).declared)
         (answer_line run (progress session.old) ask)) (K.written sink.old) (K.written sink.new)) }
     ensures over { OnOk result (IsOverFeed feed.now session.new) }
-    ensures after { OnOk result (progress session.new ≡ after run.places (progress session.old) ask) }
+    ensures after { OnOk result (progress session.new
+        ≡ after run.places (progress session.old) ask) }
     ensures cut { OnOk result (session.new.cut ≡ session.old.cut) }
     ensures cause { HasSinkCause (K.faults sink.old) (K.faults sink.new) result }
 {
@@ -116,7 +120,8 @@ fn answer(
     ensures named { IfOk result (NamesStore (length (checked_of c.now).declared.stores)) }
     ensures line { IfOk result (λ line. line ≡ answer_line run (progress session.old) ask) }
     ensures over { OnOk result (IsOverFeed feed.now session.new) }
-    ensures after { OnOk result (progress session.new ≡ after run.places (progress session.old) ask) }
+    ensures after { OnOk result (progress session.new
+        ≡ after run.places (progress session.old) ask) }
     ensures cut { OnOk result (session.new.cut ≡ session.old.cut) }
 {
     match ask {
@@ -139,7 +144,8 @@ fn read(
     requires over { IsOverFeed feed.now session.now }
     requires store { store < length (checked_of c.now).declared.stores }
     ensures named { IfOk result (NamesStore (length (checked_of c.now).declared.stores)) }
-    ensures line { IfOk result (λ line. line ≡ answer_line run (progress session.now) (ask.Read store key)) }
+    ensures line { IfOk result (λ line. line
+        ≡ answer_line run (progress session.now) (ask.Read store key)) }
 {
     let asked = KeyBytes { store, text: key };
     let reading = session.read(alloc, feed, &asked, LAST_BATCH)?;
@@ -189,7 +195,8 @@ fn work(
     requires serves { Serves (checked_of c.now) feed.now session.old.cut run }
     requires over { IsOverFeed feed.now session.old }
     ensures named { IfOk result (NamesStore (length (checked_of c.now).declared.stores)) }
-    ensures line { IfOk result (λ line. line ≡ answer_line run (progress session.old) (ask.Work most)) }
+    ensures line { IfOk result (λ line. line
+        ≡ answer_line run (progress session.old) (ask.Work most)) }
     ensures over { OnOk result (IsOverFeed feed.now session.new) }
     ensures after { OnOk result (progress session.new
         ≡ after run.places (progress session.old) (ask.Work most)) }
@@ -213,7 +220,8 @@ fn publish(
     requires serves { Serves (checked_of c.now) feed.now session.old.cut run }
     requires over { IsOverFeed feed.now session.old }
     ensures named { IfOk result (NamesStore (length (checked_of c.now).declared.stores)) }
-    ensures line { IfOk result (λ line. line ≡ answer_line run (progress session.old) (ask.Publish upto)) }
+    ensures line { IfOk result (λ line. line
+        ≡ answer_line run (progress session.old) (ask.Publish upto)) }
     ensures over { OnOk result (IsOverFeed feed.now session.new) }
     ensures after { OnOk result (progress session.new
         ≡ after run.places (progress session.old) (ask.Publish upto)) }

@@ -14,7 +14,8 @@ use sb_load::Refusal;
 pub fn status_of<K: Sink>(sink: &mut K, put: Result<(), SinkError>) -> u8
     ensures ends { EndsPut put (K.written sink.old) (K.written sink.new) result }
     ensures later { K.faults sink.old ≤ K.faults sink.new }
-    ensures sink { result ≡ 4 → (put ≡ Err failed.Failed) ⊎ Rose (K.faults sink.old) (K.faults sink.new) }
+    ensures sink { result ≡ 4 → (put ≡ Err failed.Failed)
+        ⊎ Rose (K.faults sink.old) (K.faults sink.new) }
 {
     match put {
         Ok(()) => 0,

@@ -24,7 +24,8 @@ pub fn put_report<K: Sink>(
     rows: &[(KeyBytes, Agg)],
 ) -> Result<(), SinkError>
     requires valid { AreValid (stores family.now) rows.now }
-    ensures ok { OnOk result (Appends (flat_map (batch_row family.now) rows.now) (K.written sink.old)
+    ensures ok { OnOk result (Appends (flat_map (batch_row family.now) rows.now)
+        (K.written sink.old)
         (K.written sink.new)) }
     ensures cause { HasSinkCause (K.faults sink.old) (K.faults sink.new) result }
 {

@@ -6,7 +6,7 @@ use sb_laws::{Commuting, NoMemory, Semigroup, Undo};
 use std::alloc::Global;
 
 /// The lesser of two numbers.
-#[derive(Clone, Copy, Debug)]
+#[derive(Clone, Copy)]
 pub struct MinM;
 
 impl MinM {
@@ -72,7 +72,7 @@ impl Undo for MinM {
 }
 
 /// The greater of two numbers.
-#[derive(Clone, Copy, Debug)]
+#[derive(Clone, Copy)]
 pub struct MaxM;
 
 impl MaxM {

@@ -6,7 +6,7 @@ use sb_laws::{Commuting, Monoid, NoMemory, Semigroup, Undo};
 use std::alloc::Global;
 
 /// The wrapping sum of numbers, with the zero 0.
-#[derive(Clone, Copy, Debug)]
+#[derive(Clone, Copy)]
 pub struct SumM;
 
 impl SumM {

@@ -11,7 +11,8 @@ use std::alloc::Global;
 /// The value that a field of a log or a service spells by its type: a decimal i64, `true` or `false`, or an escaped
 /// text; `None` where it spells none, as a field of any other type does. Takes memory for a text alone.
 pub fn read_field(alloc: Global, ty: &Ty, bytes: &[u8]) -> Result<Option<Val>, NoMemory>
-    ensures { IfOk result (λ value. option_map value_of value ≡ value_in (type_of ty.now) bytes.now) }
+    ensures { IfOk result (λ value. option_map value_of value
+        ≡ value_in (type_of ty.now) bytes.now) }
 {
     match ty {
         Ty::Int => Ok(read_i64(bytes).map(Val::Int)),

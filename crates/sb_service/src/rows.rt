@@ -19,7 +19,7 @@ use std::collections::BTreeMap;
 const LINE_LIMIT: usize = 16_384;
 
 /// The value of a row, and the number of its line, from 1.
-#[derive(Debug, Drop)]
+#[derive(Drop)]
 pub struct Placed {
     pub value: Val,
     pub line: u64,

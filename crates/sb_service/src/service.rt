@@ -15,7 +15,7 @@ use std::alloc::Global;
 use std::collections::BTreeMap;
 
 /// A service that is read. Contracts see its rows, the key and the value of each, in rising order of their keys.
-#[derive(Debug, Drop)]
+#[derive(Drop)]
 pub struct Service {
     rows: BTreeMap<Val, Placed>,
 }

@@ -18,7 +18,7 @@ use std::marker::Model;
 
 /// What a read gives: the value, which is none where no named record has the key; the number of published batches; and
 /// the chunks that were worked.
-#[derive(Debug, Drop)]
+#[derive(Drop)]
 pub struct Reading<E> {
     pub value: Option<E>,
     pub published: u64,
@@ -26,7 +26,7 @@ pub struct Reading<E> {
 }
 
 /// One shard, into which the chunks of a feed are worked from the first on, and in which its batches are published.
-#[derive(Debug, Drop)]
+#[derive(Drop)]
 pub struct Session<E> {
     shard: Shard<E>,
     cut: Cut,

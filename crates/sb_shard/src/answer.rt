@@ -5,7 +5,7 @@ use sb_text::Ranges;
 use thiserror::Error;
 
 /// What a shard holds of a key: its base, and one sum a batch. The base has the batches below the floor.
-#[derive(Debug, Drop)]
+#[derive(Drop)]
 pub struct Answer<E> {
     pub base: Option<E>,
     pub published: Sums<E>,

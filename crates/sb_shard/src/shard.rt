@@ -23,7 +23,7 @@ use std::marker::Model;
 
 /// The sums of a shard's keys. A batch is published (its sums are the installed rows) or online (its sums are what was
 /// flushed).
-#[derive(Debug, Drop)]
+#[derive(Drop)]
 pub struct Shard<E> {
     parts: Vec<Part<E>>,
     rows: Vec<RowList<E>>,

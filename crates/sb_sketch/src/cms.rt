@@ -20,7 +20,7 @@ pub const MOST_CELLS: u32 = 4096;
 pub const MOST_ROWS: u32 = 16;
 
 /// Count-min sketches added cell by cell, wrapping at 2^64; the zero has all cells 0. Contracts see the shape.
-#[derive(Clone, Copy, Debug)]
+#[derive(Clone, Copy)]
 pub struct CmsM {
     rows: u8,
     width: u16,

@@ -16,7 +16,7 @@ pub type Registers = Items<u8>;
 
 /// HyperLogLog of 2 to the power b registers, of which the greater of each two is taken; the zero has all registers 0.
 /// Contracts see the number b.
-#[derive(Clone, Copy, Debug)]
+#[derive(Clone, Copy)]
 pub struct HllM {
     bits: u8,
 }

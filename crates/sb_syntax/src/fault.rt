@@ -5,7 +5,7 @@ ghost use Rattle.sb_syntax.specs.declared.fault.Fault.TheVariants.{NoMemory};
 use std::alloc::{AllocError, AllocFailed};
 
 /// Why a rule reads nothing further.
-#[derive(Clone, Copy, Debug, PartialEq, Eq)]
+#[derive(Clone, Copy, PartialEq, Eq)]
 pub enum Fault {
     NoMemory,
     /// The rules are open in one another to the limit. Each takes a token, of which a statement has no more.

@@ -5,7 +5,7 @@ ghost use Rattle.sb_terms.specs.declared.fault.Fault.TheVariants.{NoMemory};
 use std::alloc::{AllocError, AllocFailed};
 
 /// Why a statement isn't accepted.
-#[derive(Clone, Copy, Debug, PartialEq, Eq)]
+#[derive(Clone, Copy, PartialEq, Eq)]
 pub enum Fault {
     NoMemory,
     /// A name in it isn't declared as what it stands for.

@@ -4,7 +4,7 @@ use sqlite_items::Boxed;
 
 /// A stream that has a type. Sources, services and lets go by their numbers, each kind from 0 in the program's order; the
 /// stages before one stand inside it.
-#[derive(Debug, Drop)]
+#[derive(Drop)]
 pub enum Flow {
     /// The records of a source.
     Source(u64),

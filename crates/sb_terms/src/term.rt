@@ -3,7 +3,7 @@ use sb_types::Val;
 use sqlite_items::{Boxed, Items};
 
 /// What is done with one value.
-#[derive(Clone, Copy, Debug)]
+#[derive(Clone, Copy)]
 pub enum Single {
     /// The first part of a pair.
     First,
@@ -30,7 +30,7 @@ pub enum Single {
 }
 
 /// An order of two values that is asked for.
-#[derive(Clone, Copy, Debug, PartialEq, Eq)]
+#[derive(Clone, Copy, PartialEq, Eq)]
 pub enum Comparison {
     Equal,
     Unequal,
@@ -41,7 +41,7 @@ pub enum Comparison {
 }
 
 /// What is done with two values.
-#[derive(Clone, Copy, Debug)]
+#[derive(Clone, Copy)]
 pub enum Double {
     Pair,
     /// What the option holds, else the second value.
@@ -58,7 +58,7 @@ pub enum Double {
 
 /// An expression that has a type. Each field goes by its place. A statement has at most 256 tokens, which bounds every
 /// recursion over one.
-#[derive(Debug, Drop)]
+#[derive(Drop)]
 pub enum Term {
     /// The value of the stream.
     It,

@@ -9,7 +9,7 @@ const TAB: u8 = b'\t';
 
 /// The columns of a line, from the first on: what stands between its tabs, or between other separators. A line has one
 /// column more than separators.
-#[derive(Debug, Drop)]
+#[derive(Drop)]
 pub struct Columns<'a> {
     separator: u8,
     rest: Option<&'a [u8]>,

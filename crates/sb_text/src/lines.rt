@@ -8,7 +8,7 @@ use std::marker::Model;
 const LF: u8 = b'\n';
 
 /// A line of a text, without its LF.
-#[derive(Clone, Copy, Debug)]
+#[derive(Clone, Copy)]
 pub struct Line<'a> {
     /// The line's number, from 1.
     pub number: u64,
@@ -18,7 +18,7 @@ pub struct Line<'a> {
 }
 
 /// The lines of a text, from the first on. Each is lent from the text, and none is copied.
-#[derive(Debug, Drop)]
+#[derive(Drop)]
 pub struct Lines<'a> {
     next: u64,
     rest: &'a [u8],

@@ -15,7 +15,7 @@ use std::marker::Model;
 const MOST: u64 = (1 << 32) - 1;
 
 /// A set of numbers below 2^32, kept in rising order. A number after all others is inserted in constant time.
-#[derive(Debug, Drop)]
+#[derive(Drop)]
 pub struct Ranges {
     numbers: Vec<u64>,
 }

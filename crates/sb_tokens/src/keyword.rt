@@ -56,7 +56,7 @@ const KEYWORDS: [Keyword; 46] = [
 ];
 
 /// A word with a meaning of its own.
-#[derive(Clone, Copy, Debug, PartialEq, Eq)]
+#[derive(Clone, Copy, PartialEq, Eq)]
 pub enum Keyword {
     Batch,
     From,

@@ -30,7 +30,7 @@ const SYMBOLS: [Symbol; 21] = [
 ];
 
 /// A symbol of one or two bytes.
-#[derive(Clone, Copy, Debug, PartialEq, Eq)]
+#[derive(Clone, Copy, PartialEq, Eq)]
 pub enum Symbol {
     OpenParen,
     CloseParen,

@@ -10,14 +10,14 @@ use sb_text::{NoMemory, Text};
 use std::alloc::Global;
 
 /// A name, lent from the text that it stands in.
-#[derive(Clone, Copy, Debug)]
+#[derive(Clone, Copy)]
 pub struct Name<'a> {
     bytes: &'a [u8],
     ghost is_name: { is_name bytes.now ≡ true },
 }
 
 /// A quoted text, lent from the text that it stands in.
-#[derive(Clone, Copy, Debug)]
+#[derive(Clone, Copy)]
 pub struct Quoted<'a> {
     // What follows the opening quote, with the closing one.
     raw: &'a [u8],
@@ -25,7 +25,7 @@ pub struct Quoted<'a> {
 }
 
 /// A token, lent from the text that it stands in.
-#[derive(Clone, Copy, Debug)]
+#[derive(Clone, Copy)]
 pub enum Token<'a> {
     Keyword(Keyword),
     Name(Name<'a>),

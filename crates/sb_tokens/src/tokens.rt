@@ -7,13 +7,13 @@ use crate::gaps::gap_length;
 use std::marker::Model;
 
 /// No token begins at this offset, or a word, a number or a quoted text that begins there breaks its form.
-#[derive(Clone, Copy, Debug, PartialEq, Eq)]
+#[derive(Clone, Copy, PartialEq, Eq)]
 pub struct BadToken {
     pub offset: u64,
 }
 
 /// The tokens of a text, from the first on. Nothing is copied from the text, and it is passed over once.
-#[derive(Debug, Drop)]
+#[derive(Drop)]
 pub struct Tokens<'a> {
     offset: u64,
     rest: &'a [u8],

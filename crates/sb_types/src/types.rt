@@ -4,7 +4,7 @@ use sqlite_items::{Boxed, Items};
 
 /// A type of values. One that a program may have has at most 64 nodes, which bounds every recursion over it.
 #[cycle(ty)]
-#[derive(Debug, Drop)]
+#[derive(Drop)]
 pub enum Ty {
     Int,
     Text,
@@ -21,14 +21,14 @@ pub type Fields = Items<Field>;
 
 /// A field of a record type.
 #[cycle(ty)]
-#[derive(Debug, Drop)]
+#[derive(Drop)]
 pub struct Field {
     pub name: Text,
     pub ty: Ty,
 }
 
 /// The monoid of a store, as a program writes it.
-#[derive(Debug, Drop)]
+#[derive(Drop)]
 pub enum Mono {
     Sum,
     Min,

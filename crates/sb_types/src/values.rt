@@ -4,7 +4,7 @@ use sqlite_items::{Boxed, Items};
 
 /// A value. Its depth is that of its type, so at most 64 where a program has the type, which bounds every recursion
 /// over it.
-#[derive(Debug, Drop)]
+#[derive(Drop)]
 pub enum Val {
     Int(i64),
     Text(Text),
@@ -20,7 +20,7 @@ pub enum Val {
 pub type Vals = Items<Val>;
 
 /// A record of a log.
-#[derive(Debug, Drop)]
+#[derive(Drop)]
 pub struct LogRecord {
     /// The number of the record's line, from 0.
     pub position: u64,

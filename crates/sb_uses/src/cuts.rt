@@ -1,4 +1,5 @@
 //! Cuts and keys on given numbers.
+use crate::expecting::{equal, holds};
 use sb_feed::{Cut, KeyBytes};
 use sb_laws::{Key, NoMemory};
 use sb_text::Text;
@@ -17,15 +18,15 @@ fn chunks(records: u64, chunk: u64, shards: u32) -> Option<u64> {
 
 #[test]
 fn limits_of_a_cut(rt: HostRuntime) -> Result<(), Fail> {
-    assert_eq!(rt; chunks(3, 0, 1), None);
-    assert_eq!(rt; chunks(3, 1_048_577, 1), None);
-    assert_eq!(rt; chunks(3, 1, 0), None);
-    assert_eq!(rt; chunks(3, 1, 65), None);
-    assert_eq!(rt; chunks(65_537, 1, 1), None);
-    assert_eq!(rt; chunks(65_536, 1, 64), Some(65_536));
-    assert_eq!(rt; chunks(0, 1_048_576, 1), Some(0));
-    assert_eq!(rt; chunks(10, 4, 3), Some(3));
-    assert_eq!(rt; chunks(8, 4, 3), Some(2));
+    equal(&rt, chunks(3, 0, 1), None);
+    equal(&rt, chunks(3, 1_048_577, 1), None);
+    equal(&rt, chunks(3, 1, 0), None);
+    equal(&rt, chunks(3, 1, 65), None);
+    equal(&rt, chunks(65_537, 1, 1), None);
+    equal(&rt, chunks(65_536, 1, 64), Some(65_536));
+    equal(&rt, chunks(0, 1_048_576, 1), Some(0));
+    equal(&rt, chunks(10, 4, 3), Some(3));
+    equal(&rt, chunks(8, 4, 3), Some(2));
     Ok(())
 }
 
@@ -34,13 +35,13 @@ fn chunks_and_shards(rt: HostRuntime) -> Result<(), Fail> {
     let Some(cut) = Cut::new(10, 4, 63) else {
         return Err(Fail::new("no cut"));
     };
-    assert_eq!(rt; cut.chunk_of(3), 0);
-    assert_eq!(rt; cut.chunk_of(4), 1);
-    assert_eq!(rt; cut.bounds(1), (4, 8));
-    assert_eq!(rt; cut.bounds(2), (8, 10));
-    assert_eq!(rt; cut.shards(), 63);
+    equal(&rt, cut.chunk_of(3), 0);
+    equal(&rt, cut.chunk_of(4), 1);
+    equal(&rt, cut.bounds(1), (4, 8));
+    equal(&rt, cut.bounds(2), (8, 10));
+    equal(&rt, cut.shards(), 63);
     // The published hash of "foobar" is 0x85944171f73967e8; here the store's number has the first four letters.
-    assert_eq!(rt; cut.shard_of(&key(rt.alloc(), 0x666f_6f62, "ar")?), 6);
+    equal(&rt, cut.shard_of(&key(rt.alloc(), 0x666f_6f62, "ar")?), 6);
     Ok(())
 }
 
@@ -49,9 +50,9 @@ fn keys_go_by_store_and_then_by_text(rt: HostRuntime) -> Result<(), Fail> {
     let alloc = rt.alloc();
     let least = key(alloc, 0, "b")?;
     let middle = key(alloc, 1, "a")?;
-    assert!(rt; least < middle);
-    assert!(rt; middle < key(alloc, 1, "ab")?);
-    assert!(rt; middle != key(alloc, 0, "a")?);
-    assert_eq!(rt; middle.copy(alloc)?, middle);
+    holds(&rt, least < middle);
+    holds(&rt, middle < key(alloc, 1, "ab")?);
+    holds(&rt, middle != key(alloc, 0, "a")?);
+    holds(&rt, middle.copy(alloc)? == middle);
     Ok(())
 }

@@ -1,5 +1,6 @@
 //! Kinds of any text at work: sums of prepared values, printed and read again.
 use crate::bounds::regrouped;
+use crate::expecting::{equal, holds};
 use sb_kind::{Agg, Kind, KindM, OnlineM, commutes, prepare, read, text};
 use sb_laws::{NoMemory, Semigroup};
 use sb_text::Text;
@@ -53,9 +54,9 @@ fn expect_sum(
 ) -> Result<(), NoMemory> {
     let m = KindM::new(kind_of(rt, alloc, mono)?);
     let sum = sum_text(alloc, &m, values.0, values.1)?;
-    assert_eq!(rt; sum.as_slice(), expected.as_bytes());
+    equal(rt, sum.as_slice(), expected.as_bytes());
     let again = text_again(alloc, &m, elem, sum.as_slice())?;
-    assert_eq!(rt; again.as_slice(), expected.as_bytes());
+    equal(rt, again.as_slice(), expected.as_bytes());
     Ok(())
 }
 
@@ -166,9 +167,9 @@ fn a_sum_in_any_order(rt: HostRuntime) -> Result<(), Fail> {
     let kind = kind_of(&rt, alloc, &Mono::Sum)?;
     let left = prepare(alloc, &kind, Val::Int(5))?;
     let right = prepare(alloc, &kind, Val::Int(-7))?;
-    assert!(rt; commutes(&kind));
+    holds(&rt, commutes(&kind));
     match OnlineM::new(kind) {
-        Some(m) => assert!(rt; regrouped(alloc, &m, left, right)?.is_some()),
+        Some(m) => holds(&rt, regrouped(alloc, &m, left, right)?.is_some()),
         None => rt.abort(),
     }
     Ok(())

@@ -7,6 +7,8 @@ mod bounds;
 #[cfg(test)]
 mod cuts;
 #[cfg(test)]
+mod expecting;
+#[cfg(test)]
 mod greater;
 #[cfg(test)]
 mod kinds;

@@ -1,4 +1,5 @@
 //! Shelves and sinks, over memory and over the operating system.
+use crate::expecting::{equal, holds};
 use sb_io::{Fetched, FsShelf, MemShelf, MemSink, Shelf, ShelfError, Sink, SinkError, StdSink};
 use std::alloc::Global;
 use std::fs;
@@ -30,14 +31,14 @@ fn a_shelf_in_memory(rt: HostRuntime) -> Result<(), Fail> {
     shelf.add("a", b"one")?;
     shelf.add("b", b"two")?;
     shelf.add("a", b"three")?;
-    assert!(&rt; gives(alloc, &mut shelf, "a", 5, b"three"));
-    assert!(&rt; gives(alloc, &mut shelf, "b", 5, b"two"));
-    assert!(&rt; is_longer(alloc, &mut shelf, "a", 4));
-    assert!(&rt; fails(alloc, &mut shelf, "c"));
+    holds(&rt, gives(alloc, &mut shelf, "a", 5, b"three"));
+    holds(&rt, gives(alloc, &mut shelf, "b", 5, b"two"));
+    holds(&rt, is_longer(alloc, &mut shelf, "a", 4));
+    holds(&rt, fails(alloc, &mut shelf, "c"));
     shelf.fail_at(6)?;
-    assert!(&rt; gives(alloc, &mut shelf, "b", 9, b"two"));
-    assert!(&rt; fails(alloc, &mut shelf, "b"));
-    assert!(&rt; gives(alloc, &mut shelf, "b", 9, b"two"));
+    holds(&rt, gives(alloc, &mut shelf, "b", 9, b"two"));
+    holds(&rt, fails(alloc, &mut shelf, "b"));
+    holds(&rt, gives(alloc, &mut shelf, "b", 9, b"two"));
     Ok(())
 }
 
@@ -45,10 +46,10 @@ fn a_shelf_in_memory(rt: HostRuntime) -> Result<(), Fail> {
 fn a_sink_in_memory_fails_where_it_is_told(rt: HostRuntime) -> Result<(), Fail> {
     let mut sink = MemSink::new(rt.alloc());
     sink.fail_at(2)?;
-    assert_eq!(&rt; sink.put(b"one"), Ok(()));
-    assert_eq!(&rt; sink.put(b"two"), Err(SinkError::Failed));
-    assert_eq!(&rt; sink.put(b"three"), Ok(()));
-    assert_eq!(&rt; sink.bytes(), b"onethree".as_slice());
+    equal(&rt, sink.put(b"one"), Ok(()));
+    equal(&rt, sink.put(b"two"), Err(SinkError::Failed));
+    equal(&rt, sink.put(b"three"), Ok(()));
+    equal(&rt, sink.bytes(), b"onethree".as_slice());
     Ok(())
 }
 
@@ -57,9 +58,12 @@ fn the_file_system_is_a_shelf(rt: HostRuntime) -> Result<(), Fail> {
     let alloc = rt.alloc();
     fs::write(&rt, "sb_io_test_file", "some bytes")?;
     let mut shelf = FsShelf::new(&rt);
-    assert!(&rt; gives(alloc, &mut shelf, "sb_io_test_file", 10, b"some bytes"));
-    assert!(&rt; is_longer(alloc, &mut shelf, "sb_io_test_file", 9));
-    assert!(&rt; fails(alloc, &mut shelf, "sb_io_test_no_file"));
+    holds(
+        &rt,
+        gives(alloc, &mut shelf, "sb_io_test_file", 10, b"some bytes"),
+    );
+    holds(&rt, is_longer(alloc, &mut shelf, "sb_io_test_file", 9));
+    holds(&rt, fails(alloc, &mut shelf, "sb_io_test_no_file"));
     fs::remove_file(&rt, "sb_io_test_file")?;
     Ok(())
 }
@@ -81,8 +85,8 @@ impl Write for Broken {
 #[test]
 fn a_writer_is_a_sink(rt: HostRuntime) -> Result<(), Fail> {
     let mut sink = StdSink::new(Vec::new(rt.alloc()));
-    assert_eq!(&rt; sink.put(b"one"), Ok(()));
+    equal(&rt, sink.put(b"one"), Ok(()));
     let mut broken = StdSink::new(Broken);
-    assert_eq!(&rt; broken.put(b"one"), Err(SinkError::Failed));
+    equal(&rt, broken.put(b"one"), Err(SinkError::Failed));
     Ok(())
 }

@@ -1,4 +1,5 @@
 //! Texts of programs, where they go wrong, and the longest.
+use crate::expecting::equal;
 use sb_syntax::{Code, SyntaxError, parse, print};
 use std::alloc::Global;
 use std::process::Abort;
@@ -69,7 +70,7 @@ fn where_texts_go_wrong(rt: HostRuntime) -> Result<(), Fail> {
     ];
     for (text, offset, code) in cases {
         let error = goes_wrong(alloc, text.as_bytes());
-        assert_eq!(rt; error, Some(SyntaxError::At { offset, code }));
+        equal(&rt, error, Some(SyntaxError::At { offset, code }));
     }
     Ok(())
 }
@@ -84,7 +85,7 @@ fn one_token_and_one_statement_too_many(rt: HostRuntime) -> Result<(), Fail> {
     for (start, part, times, middle, end, offset, code) in cases {
         let text = repeated(alloc, start, part, times, middle, end)?;
         let error = goes_wrong(alloc, text.as_slice());
-        assert_eq!(rt; error, Some(SyntaxError::At { offset, code }));
+        equal(&rt, error, Some(SyntaxError::At { offset, code }));
     }
     Ok(())
 }
@@ -103,13 +104,13 @@ fn printed(rt: &impl Abort, alloc: Global, text: &[u8]) -> Result<Vec<u8>, Fail>
 fn programs_are_printed_and_read_again(rt: HostRuntime) -> Result<(), Fail> {
     let alloc = rt.alloc();
     let head = printed(&rt, alloc, b"batch 1000 from 0".as_slice())?;
-    assert_eq!(&rt; head.as_slice(), b"batch 1000 from 0\n".as_slice());
+    equal(&rt, head.as_slice(), b"batch 1000 from 0\n".as_slice());
     let lines = b"batch 5 from - 7\nlet a = b | map ( it . 1 + 2 , - \"x\\n\" )\n".as_slice();
     let again = printed(&rt, alloc, lines)?;
-    assert_eq!(&rt; again.as_slice(), lines);
+    equal(&rt, again.as_slice(), lines);
     let once = printed(&rt, alloc, WHOLE.as_bytes())?;
     let twice = printed(&rt, alloc, once.as_slice())?;
-    assert_eq!(&rt; twice.as_slice(), once.as_slice());
+    equal(&rt, twice.as_slice(), once.as_slice());
     Ok(())
 }
 
@@ -138,7 +139,7 @@ fn the_deepest_and_the_longest_statements(rt: HostRuntime) -> Result<(), Fail> {
     ];
     for (start, part, times, middle, end) in cases {
         let text = repeated(alloc, start, part, times, middle, end)?;
-        assert_eq!(rt; goes_wrong(alloc, text.as_slice()), None);
+        equal(&rt, goes_wrong(alloc, text.as_slice()), None);
     }
     Ok(())
 }

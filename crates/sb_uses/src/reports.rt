@@ -1,6 +1,7 @@
 //! A report of one store of sums, and the keys of its shard.
 ghost use Rattle.std.specs.Prelude.{◌≡◌, [], ◌∷◌, IfOk};
 
+use crate::expecting::equal;
 use sb_feed::{Family, KeyBytes, Printed, RowList, Rows};
 use sb_report::report;
 use sb_scalars::SumM;
@@ -93,7 +94,7 @@ fn a_report_has_a_row_for_each_key(rt: HostRuntime) -> Result<(), Fail> {
     let rows = rows_of(alloc, "a", -3)?;
     let mut out = Vec::new(alloc);
     report(alloc, &total(alloc)?, &rows, &mut out)?;
-    assert_eq!(rt; out.as_slice(), b"total\ta\t-3\n".as_slice());
+    equal(&rt, out.as_slice(), b"total\ta\t-3\n".as_slice());
     Ok(())
 }
 
@@ -101,8 +102,8 @@ fn a_report_has_a_row_for_each_key(rt: HostRuntime) -> Result<(), Fail> {
 fn a_shard_has_the_keys_of_its_rows(rt: HostRuntime) -> Result<(), Fail> {
     let alloc = rt.alloc();
     let mut shard = Shard::new(alloc);
-    assert_eq!(rt; shard.keys(alloc)?.len(), 0);
+    equal(&rt, shard.keys(alloc)?.len(), 0);
     shard.install(rows_of(alloc, "a", 7)?)?;
-    assert_eq!(rt; shard.keys(alloc)?.len(), 1);
+    equal(&rt, shard.keys(alloc)?.len(), 1);
     Ok(())
 }

@@ -1,4 +1,5 @@
 //! Services, read and asked.
+use crate::expecting::{equal, holds};
 use sb_service::{Service, ServiceError, read_field, read_service};
 use sb_text::NoMemory;
 use sb_types::{Ty, Val};
@@ -23,10 +24,10 @@ fn rows_are_found_by_their_keys(rt: HostRuntime) -> Result<(), Fail> {
         Ok(service) => service,
         Err(error) => return Err(Fail::from(error)),
     };
-    assert_eq!(rt; value_at(alloc, &service, "b")?, Some(true));
-    assert_eq!(rt; value_at(alloc, &service, "")?, Some(false));
-    assert_eq!(rt; value_at(alloc, &service, "a\\tc")?, Some(true));
-    assert_eq!(rt; value_at(alloc, &service, "a")?, None);
+    equal(&rt, value_at(alloc, &service, "b")?, Some(true));
+    equal(&rt, value_at(alloc, &service, "")?, Some(false));
+    equal(&rt, value_at(alloc, &service, "a\\tc")?, Some(true));
+    equal(&rt, value_at(alloc, &service, "a")?, None);
     Ok(())
 }
 
@@ -44,7 +45,7 @@ fn the_first_bad_line_decides(rt: HostRuntime) -> Result<(), Fail> {
     ];
     for (text, expected) in texts {
         let read = read_service(rt.alloc(), &Ty::Int, &Ty::Text, text.as_bytes());
-        assert!(rt; matches!(read, Err(error) if error == expected));
+        holds(&rt, matches!(read, Err(error) if error == expected));
     }
     Ok(())
 }

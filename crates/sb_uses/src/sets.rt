@@ -5,6 +5,7 @@ ghost use Rattle.sb_gather.specs.Entries.{AreEntries};
 ghost use Rattle.sb_gather.specs.Maps.{AnyKey, by_key};
 
 use crate::bounds::{is_of_zero, single, taken_back, three};
+use crate::expecting::{equal, holds};
 use crate::greater::Greater;
 use sb_gather::{Both, Entries, Keys, MapM, PairM, SetM};
 use sb_laws::{Items, Monoid, NoMemory, Semigroup};
@@ -53,11 +54,11 @@ fn a_map_of_pairs_of_sets(rt: HostRuntime) -> Result<(), Fail> {
     let c = deep_of(alloc, 0, pair_of(alloc, 9, 1)?)?;
     match three(alloc, &m, a, b, c)? {
         Some(map) => {
-            assert_eq!(rt; map.len(), 2);
-            assert_eq!(rt; map.as_slice()[1].1.left.as_slice(), [4, 5].as_slice());
-            assert_eq!(rt; map.as_slice()[1].1.right, 7);
+            equal(&rt, map.len(), 2);
+            equal(&rt, map.as_slice()[1].1.left.as_slice(), [4, 5].as_slice());
+            equal(&rt, map.as_slice()[1].1.right, 7);
         }
-        None => assert!(rt; false),
+        None => holds(&rt, false),
     }
     Ok(())
 }
@@ -79,9 +80,10 @@ fn many_keys_are_merged(rt: HostRuntime) -> Result<(), Fail> {
     let mut set = set_of_all(alloc, &[6, 3, 15, 12])?;
     let more = set_of_all(alloc, &[9, 1, 3, 12, 5, 7, 8, 2, 0, 20])?;
     SetM::<i64>::new().plus(alloc, &mut set, more)?;
-    assert_eq!(rt;
+    equal(
+        &rt,
         set.as_slice(),
-        [0, 1, 2, 3, 5, 6, 7, 8, 9, 12, 15, 20].as_slice()
+        [0, 1, 2, 3, 5, 6, 7, 8, 9, 12, 15, 20].as_slice(),
     );
     Ok(())
 }
@@ -92,15 +94,15 @@ fn parts_are_taken_back_or_refused(rt: HostRuntime) -> Result<(), Fail> {
     let m = PairM::<SetM<i64>, Greater>::new(SetM::new(), Greater);
     let a = pair_of(alloc, 5, 7)?;
     let same = taken_back(alloc, &m, &a, pair_of(alloc, 4, 8)?)?;
-    assert_eq!(rt; same.left.as_slice(), [5].as_slice());
-    assert_eq!(rt; same.right, 7);
+    equal(&rt, same.left.as_slice(), [5].as_slice());
+    equal(&rt, same.right, 7);
     let same = taken_back(alloc, &m, &a, pair_of(alloc, 4, 13)?)?;
-    assert_eq!(rt; same.left.as_slice(), [5].as_slice());
+    equal(&rt, same.left.as_slice(), [5].as_slice());
     let map = MapM::<i64, Greater>::new(Greater);
     let same = taken_back(alloc, &map, &map_of(alloc, 1, 2)?, map_of(alloc, 1, 3)?)?;
-    assert_eq!(rt; same.as_slice(), [(1, 2)].as_slice());
-    assert!(rt; is_of_zero(alloc, &map)?);
+    equal(&rt, same.as_slice(), [(1, 2)].as_slice());
+    holds(&rt, is_of_zero(alloc, &map)?);
     let sets = PairM::<SetM<i64>, SetM<i64>>::new(SetM::new(), SetM::new());
-    assert!(rt; is_of_zero(alloc, &sets)?);
+    holds(&rt, is_of_zero(alloc, &sets)?);
     Ok(())
 }

@@ -1,5 +1,6 @@
 //! Sketches of known items, by SHA-256 as an outside program computes it.
 use crate::bounds::{regrouped, taken_back};
+use crate::expecting::{equal, holds};
 use sb_laws::{Monoid, NoMemory, Semigroup};
 use sb_sketch::{Cells, CmsM, HllM, Registers};
 use std::alloc::Global;
@@ -20,16 +21,16 @@ fn counted(alloc: Global, m: &CmsM, item: &[u8]) -> Result<(Cells, Cells), NoMem
 fn one_item_counts_once_in_each_row(rt: HostRuntime) -> Result<(), Fail> {
     let alloc = rt.alloc();
     let Some(m) = CmsM::new(3, 7) else {
-        return Ok(assert!(rt; false));
+        return Ok(holds(&rt, false));
     };
     let cells = [
         0, 0, 0, 0, 0, 1, 0, 0, 0, 0, 0, 0, 1, 0, 0, 0, 0, 0, 1, 0, 0,
     ]
     .as_slice();
-    assert_eq!(rt; m.one(alloc, b"abc")?.as_slice(), cells);
+    equal(&rt, m.one(alloc, b"abc")?.as_slice(), cells);
     let (sum, in_place) = counted(alloc, &m, b"abc")?;
-    assert_eq!(rt; sum.as_slice(), cells);
-    assert_eq!(rt; in_place.as_slice(), cells);
+    equal(&rt, sum.as_slice(), cells);
+    equal(&rt, in_place.as_slice(), cells);
     Ok(())
 }
 
@@ -37,22 +38,22 @@ fn one_item_counts_once_in_each_row(rt: HostRuntime) -> Result<(), Fail> {
 fn registers_of_known_items(rt: HostRuntime) -> Result<(), Fail> {
     let alloc = rt.alloc();
     let Some(m) = HllM::new(4) else {
-        return Ok(assert!(rt; false));
+        return Ok(holds(&rt, false));
     };
     let registers = [0, 0, 0, 0, 0, 0, 0, 0, 0, 0, 0, 1, 0, 0, 3, 0].as_slice();
     let mut all = m.one(alloc, b"abc")?;
     m.add_item(&mut all, NOTHING);
     m.add_item(&mut all, b"abc");
-    assert_eq!(rt; all.as_slice(), registers);
+    equal(&rt, all.as_slice(), registers);
     let mut sum = m.one(alloc, NOTHING)?;
     m.plus(alloc, &mut sum, m.one(alloc, b"abc")?)?;
-    assert_eq!(rt; sum.as_slice(), registers);
+    equal(&rt, sum.as_slice(), registers);
     let Some(m) = HllM::new(12) else {
-        return Ok(assert!(rt; false));
+        return Ok(holds(&rt, false));
     };
     let many = m.one(alloc, NOTHING)?;
-    assert_eq!(rt; many.len(), 4096);
-    assert_eq!(rt; many.as_slice().get(3643).copied(), Some(5));
+    equal(&rt, many.len(), 4096);
+    equal(&rt, many.as_slice().get(3643).copied(), Some(5));
     Ok(())
 }
 
@@ -68,17 +69,17 @@ fn tells_zero<M: Monoid>(alloc: Global, m: &M, a: &M::El) -> Result<bool, NoMemo
 fn both_through_their_bounds(rt: HostRuntime) -> Result<(), Fail> {
     let alloc = rt.alloc();
     let (Some(cms), Some(hll)) = (CmsM::new(2, 3), HllM::new(4)) else {
-        return Ok(assert!(rt; false));
+        return Ok(holds(&rt, false));
     };
     let cells = cms.one(alloc, b"abc")?;
-    assert!(rt; tells_zero(alloc, &cms, &cells)?);
+    holds(&rt, tells_zero(alloc, &cms, &cells)?);
     let same = taken_back(alloc, &cms, &cells, cms.one(alloc, NOTHING)?)?;
-    assert_eq!(rt; same.as_slice(), cells.as_slice());
-    assert!(rt; regrouped(alloc, &cms, cells, same)?.is_some());
+    equal(&rt, same.as_slice(), cells.as_slice());
+    holds(&rt, regrouped(alloc, &cms, cells, same)?.is_some());
     let registers: Registers = hll.one(alloc, b"abc")?;
-    assert!(rt; tells_zero(alloc, &hll, &registers)?);
+    holds(&rt, tells_zero(alloc, &hll, &registers)?);
     let same = taken_back(alloc, &hll, &registers, hll.one(alloc, NOTHING)?)?;
-    assert_eq!(rt; same.as_slice(), registers.as_slice());
-    assert!(rt; regrouped(alloc, &hll, registers, same)?.is_some());
+    equal(&rt, same.as_slice(), registers.as_slice());
+    holds(&rt, regrouped(alloc, &hll, registers, same)?.is_some());
     Ok(())
 }

@@ -1,4 +1,5 @@
 //! Texts and numbers, written and read again.
+use crate::expecting::{equal, holds};
 use sb_text::{
     Columns, Lines, NoMemory, Ranges, Text, escape, field_escape, field_unescape, read_i64,
     read_u64, unescape, write_i64, write_u64,
@@ -30,15 +31,18 @@ fn spellings_both_ways(rt: HostRuntime) -> Result<(), Fail> {
     for (text, escaped, field) in rows {
         let mut out = Vec::new(alloc);
         escape(alloc, &mut out, text.as_bytes())?;
-        assert_eq!(rt; out.as_slice(), escaped.as_bytes());
+        equal(&rt, out.as_slice(), escaped.as_bytes());
         let mut out = Vec::new(alloc);
         field_escape(alloc, &mut out, text.as_bytes())?;
-        assert_eq!(rt; out.as_slice(), field.as_bytes());
-        assert!(rt; is_text(&unescape(alloc, escaped.as_bytes())?, text));
-        assert!(rt; is_text(&field_unescape(alloc, field.as_bytes())?, text));
+        equal(&rt, out.as_slice(), field.as_bytes());
+        holds(&rt, is_text(&unescape(alloc, escaped.as_bytes())?, text));
+        holds(
+            &rt,
+            is_text(&field_unescape(alloc, field.as_bytes())?, text),
+        );
     }
     for bytes in ["%2", "%2c", "%61", "a=b", "%FF"] {
-        assert!(rt; unescape(alloc, bytes.as_bytes())?.is_none());
+        holds(&rt, unescape(alloc, bytes.as_bytes())?.is_none());
     }
     Ok(())
 }
@@ -47,13 +51,13 @@ fn spellings_both_ways(rt: HostRuntime) -> Result<(), Fail> {
 fn numbers_are_written_and_read(rt: HostRuntime) -> Result<(), Fail> {
     let mut out = Vec::new(rt.alloc());
     write_u64(rt.alloc(), &mut out, u64::MAX)?;
-    assert_eq!(rt; read_u64(out.as_slice()), Some(u64::MAX));
+    equal(&rt, read_u64(out.as_slice()), Some(u64::MAX));
     out.clear();
     write_i64(rt.alloc(), &mut out, i64::MIN)?;
-    assert_eq!(rt; read_i64(out.as_slice()), Some(i64::MIN));
-    assert_eq!(rt; out.as_slice(), b"-9223372036854775808".as_slice());
-    assert_eq!(rt; read_u64(b"05"), None);
-    assert_eq!(rt; read_i64(b"-0"), None);
+    equal(&rt, read_i64(out.as_slice()), Some(i64::MIN));
+    equal(&rt, out.as_slice(), b"-9223372036854775808".as_slice());
+    equal(&rt, read_u64(b"05"), None);
+    equal(&rt, read_i64(b"-0"), None);
     Ok(())
 }
 
@@ -68,10 +72,13 @@ fn texts_are_made_and_ordered(rt: HostRuntime) -> Result<(), Fail> {
     let blank = Text::from_string(String::from_str(alloc, "a b")?);
     let again = blank.copy(alloc)?;
     let escaped = blank.escaped(alloc)?;
-    assert_eq!(&rt; escaped.as_bytes(), b"a%20b".as_slice());
+    equal(&rt, escaped.as_bytes(), b"a%20b".as_slice());
     let number = Text::from_i64(alloc, -10)?;
-    assert!(&rt; greater(escaped, number) == again.escaped(alloc)?);
-    assert!(&rt; Text::from_bytes(Vec::from_slice(alloc, b"\xff")?).is_none());
+    holds(&rt, greater(escaped, number) == again.escaped(alloc)?);
+    holds(
+        &rt,
+        Text::from_bytes(Vec::from_slice(alloc, b"\xff")?).is_none(),
+    );
     Ok(())
 }
 
@@ -81,21 +88,22 @@ fn lines_and_columns(rt: HostRuntime) {
     let expected = [(1, "a\tb\t", true), (2, "", true), (3, "last", false)];
     for (number, bytes, ended) in expected {
         let line = lines.next();
-        assert_eq!(rt;
+        equal(
+            &rt,
             line.is_some_and(|l| l.number == number
                 && l.bytes == bytes.as_bytes()
                 && l.ended == ended),
-            true
+            true,
         );
     }
     let mut columns = Columns::new(b"a\t\tc");
     let mut words = Columns::separated_by(b"a  c", b' ');
     for (left, text) in [(3, "a"), (2, ""), (1, "c")] {
-        assert_eq!(rt; columns.left(), left);
-        assert_eq!(rt; columns.next(), Some(text.as_bytes()));
-        assert_eq!(rt; words.next(), Some(text.as_bytes()));
+        equal(&rt, columns.left(), left);
+        equal(&rt, columns.next(), Some(text.as_bytes()));
+        equal(&rt, words.next(), Some(text.as_bytes()));
     }
-    assert_eq!(rt; columns.next(), None);
+    equal(&rt, columns.next(), None);
 }
 
 fn set(alloc: Global, numbers: &[u64]) -> Result<Ranges, NoMemory> {
@@ -112,9 +120,9 @@ fn set(alloc: Global, numbers: &[u64]) -> Result<Ranges, NoMemory> {
 fn expect_text(rt: &impl Abort, alloc: Global, set: &Ranges, text: &str) -> Result<(), NoMemory> {
     let mut out = Vec::new(alloc);
     set.text(&mut out)?;
-    assert_eq!(rt; out.as_slice(), text.as_bytes());
+    equal(rt, out.as_slice(), text.as_bytes());
     let read = Ranges::read(alloc, text.as_bytes())?;
-    assert_eq!(rt; read.is_some_and(|r| r.count() == set.count()), true);
+    equal(rt, read.is_some_and(|r| r.count() == set.count()), true);
     Ok(())
 }
 
@@ -134,11 +142,11 @@ fn sets_print_their_maximal_ranges(rt: HostRuntime) -> Result<(), Fail> {
         let mut both = set(alloc, left.as_slice())?;
         both.union(&set(alloc, right.as_slice())?)?;
         expect_text(&rt, alloc, &both.copy()?, text)?;
-        assert!(rt; both.contains(right[0]));
+        holds(&rt, both.contains(right[0]));
     }
     expect_text(&rt, alloc, &Ranges::new(alloc), "none")?;
     for text in ["", "0", "0-1,2-3", "3-2", "00-1", "0-4294967296"] {
-        assert!(rt; Ranges::read(alloc, text.as_bytes())?.is_none());
+        holds(&rt, Ranges::read(alloc, text.as_bytes())?.is_none());
     }
     Ok(())
 }
@@ -157,6 +165,6 @@ fn texts_are_keys_of_a_hash_map(rt: HostRuntime) -> Result<(), Fail> {
         }
     }
     let key = Text::from_string(String::from_str(alloc, "a")?);
-    assert_eq!(rt; sums.get(&key).copied(), Some(2));
+    equal(&rt, sums.get(&key).copied(), Some(2));
     Ok(())
 }

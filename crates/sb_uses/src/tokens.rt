@@ -1,4 +1,5 @@
 //! Texts beside their nearest neighbours that have other tokens.
+use crate::expecting::{equal, holds};
 use sb_text::{NoMemory, escape, write_u64};
 use sb_tokens::{
     Keyword, Symbol, Token, Tokens, write_int, write_keyword, write_name, write_symbol, write_text,
@@ -111,7 +112,7 @@ fn texts_beside_their_nearest_neighbours(rt: HostRuntime) -> Result<(), Fail> {
         (b"\"\xc3\"\xa9", "!0"),
     ];
     for (text, tokens) in texts {
-        assert_eq!(rt; shown(rt.alloc(), text)?.as_slice(), tokens.as_bytes());
+        equal(&rt, shown(rt.alloc(), text)?.as_slice(), tokens.as_bytes());
     }
     Ok(())
 }
@@ -126,9 +127,9 @@ fn each_keyword_is_read_as_itself(rt: HostRuntime) -> Result<(), Fail> {
     let mut written = Vec::new(rt.alloc());
     for _ in 0..46 {
         if let Ok(Some((_, Token::Keyword(keyword)))) = tokens.next_token() {
-            assert_eq!(rt;
-                Keyword::from_bytes(keyword.text().as_bytes()),
-                Some(keyword)
+            holds(
+                &rt,
+                Keyword::from_bytes(keyword.text().as_bytes()) == Some(keyword),
             );
             let text = keyword.to_text(rt.alloc())?;
             written.extend_from_slice(text.as_bytes())?;
@@ -136,8 +137,8 @@ fn each_keyword_is_read_as_itself(rt: HostRuntime) -> Result<(), Fail> {
         }
     }
     written.pop();
-    assert_eq!(rt; written.as_slice(), words.as_bytes());
-    assert_eq!(rt; Keyword::from_bytes(b"name"), None);
+    equal(&rt, written.as_slice(), words.as_bytes());
+    holds(&rt, Keyword::from_bytes(b"name").is_none());
     Ok(())
 }
 
@@ -155,14 +156,15 @@ fn what_is_written_is_read_again(rt: HostRuntime) -> Result<(), Fail> {
     write_text(rt.alloc(), &mut out, b"\"b\\\n\t\r\xc3\xa9")?;
     out.push(b'\n')?;
     let text = "let a <= 7 \"\\\"b\\\\\\n\\t\\r\u{e9}\"\n";
-    assert_eq!(rt; out.as_slice(), text.as_bytes());
+    equal(&rt, out.as_slice(), text.as_bytes());
     let tokens = "k0:let n4:a s6:<= i9:7 t11:\"b\\%0A%09%0D\u{e9} end";
-    assert_eq!(rt;
+    equal(
+        &rt,
         shown(rt.alloc(), out.as_slice())?.as_slice(),
-        tokens.as_bytes()
+        tokens.as_bytes(),
     );
     if let Ok(Some((_, Token::Name(name)))) = Tokens::new(b"a").next_token() {
-        assert_eq!(rt; name.to_text(rt.alloc())?.as_bytes(), b"a".as_slice());
+        equal(&rt, name.to_text(rt.alloc())?.as_bytes(), b"a".as_slice());
     }
     Ok(())
 }

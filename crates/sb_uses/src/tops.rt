@@ -4,6 +4,7 @@ ghost use Rattle.std.specs.Ordering.{int_cmp};
 ghost use Rattle.sb_gather.specs.Tops.{by_rank, IsTop};
 
 use crate::bounds::{is_of_zero, regrouped, taken_back};
+use crate::expecting::{equal, holds};
 use sb_gather::{Scored, TopM};
 use sb_laws::{Monoid, NoMemory, Semigroup};
 use std::alloc::Global;
@@ -17,15 +18,15 @@ const B: i64 = 98;
 fn ties_go_by_item(rt: HostRuntime) -> Result<(), Fail> {
     let alloc = rt.alloc();
     let Some(m) = TopM::<i64>::new(2) else {
-        return Ok(assert!(rt; false));
+        return Ok(holds(&rt, false));
     };
-    assert!(rt; is_of_zero(alloc, &m)?);
+    holds(&rt, is_of_zero(alloc, &m)?);
     let Some(mut top) = regrouped(alloc, &m, m.one(alloc, 5, B)?, m.one(alloc, 5, A)?)? else {
-        return Ok(assert!(rt; false));
+        return Ok(holds(&rt, false));
     };
-    assert_eq!(rt; top.as_slice(), [(5, A), (5, B)].as_slice());
+    equal(&rt, top.as_slice(), [(5, A), (5, B)].as_slice());
     top.truncate(1);
-    assert_eq!(rt; top.len(), 1);
+    equal(&rt, top.len(), 1);
     Ok(())
 }
 
@@ -43,13 +44,13 @@ fn top_of_all(alloc: Global, m: &TopM<i64>, scores: &[i64]) -> Result<Scored<i64
 fn many_scores_are_merged(rt: HostRuntime) -> Result<(), Fail> {
     let alloc = rt.alloc();
     let Some(m) = TopM::<i64>::new(12) else {
-        return Ok(assert!(rt; false));
+        return Ok(holds(&rt, false));
     };
     let mut top = top_of_all(alloc, &m, &[20, 18, 16, 14, 12, 10, 8, 6, 4, 2, 0])?;
     let more = top_of_all(alloc, &m, &[19, 18, 17, 15, 13, 11, 9, 7, 5, 3, 1])?;
     let same = taken_back(alloc, &m, &top, m.copy(alloc, &more)?)?;
-    assert_eq!(rt; same.len(), 11);
-    assert_eq!(rt; same.as_slice(), top.as_slice());
+    equal(&rt, same.len(), 11);
+    equal(&rt, same.as_slice(), top.as_slice());
     m.plus(alloc, &mut top, more)?;
     let first = [
         (20, A),
@@ -65,6 +66,6 @@ fn many_scores_are_merged(rt: HostRuntime) -> Result<(), Fail> {
         (11, A),
         (10, A),
     ];
-    assert_eq!(rt; top.as_slice(), first.as_slice());
+    equal(&rt, top.as_slice(), first.as_slice());
     Ok(())
 }

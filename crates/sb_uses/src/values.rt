@@ -1,4 +1,5 @@
 //! Values, their texts with the nearest neighbours that are none, and their order.
+use crate::expecting::equal;
 use sb_text::{NoMemory, Text};
 use sb_types::{Field, Ty, Val, Vals, compare, copy, read, read_front, read_key, text};
 use sqlite_items::{Boxed, Items};
@@ -89,11 +90,12 @@ fn expect_value(
 ) -> Result<(), NoMemory> {
     let mut out = Vec::from_slice(alloc, b"> ".as_slice())?;
     text(alloc, value, &mut out)?;
-    assert_eq!(rt;
+    equal(
+        rt,
         out.as_slice().strip_prefix(b"> ".as_slice()),
-        Some(printed.as_bytes())
+        Some(printed.as_bytes()),
     );
-    assert_eq!(rt; copy(alloc, value)? == *value, true);
+    equal(rt, copy(alloc, value)? == *value, true);
     Ok(())
 }
 
@@ -122,19 +124,20 @@ fn values_are_ordered_and_printed(rt: HostRuntime) -> Result<(), Fail> {
         "{}",
         "{7,8,9}",
     ];
-    assert_eq!(rt; all.len(), texts.len());
+    equal(&rt, all.len(), texts.len());
     for (i, left) in all.iter().enumerate() {
         if let Some(expected) = texts.get(i) {
             expect_value(&rt, rt.alloc(), left, expected)?;
         }
         for (j, right) in all.iter().enumerate() {
-            assert_eq!(rt; compare(left, right), i.cmp(&j));
-            assert_eq!(rt; left == right, i == j);
+            equal(&rt, compare(left, right), i.cmp(&j));
+            equal(&rt, left == right, i == j);
         }
     }
-    assert_eq!(rt;
+    equal(
+        &rt,
         greater(Val::Int(3), Val::Bool(false)) == Val::Bool(false),
-        true
+        true,
     );
     Ok(())
 }
@@ -157,9 +160,9 @@ fn are_read(
             Some(value) => text(alloc, &value, &mut out)?,
             None => rt.abort(),
         }
-        assert_eq!(rt; out.as_slice(), bytes.as_bytes());
+        equal(rt, out.as_slice(), bytes.as_bytes());
         let key = read_key(alloc, ty, bytes.as_bytes())?;
-        assert_eq!(rt; key.is_some(), keys);
+        equal(rt, key.is_some(), keys);
     }
     Ok(())
 }
@@ -182,7 +185,7 @@ fn leaves_are_read_and_printed_again(rt: HostRuntime) -> Result<(), Fail> {
         are_read(&rt, rt.alloc(), &ty, true, texts.as_slice())?;
     }
     match read_front(rt.alloc(), &Ty::Int, b"12=[3]".as_slice())? {
-        Some((Val::Int(12), rest)) => assert_eq!(rt; rest, b"=[3]".as_slice()),
+        Some((Val::Int(12), rest)) => equal(&rt, rest, b"=[3]".as_slice()),
         _ => rt.abort(),
     }
     Ok(())

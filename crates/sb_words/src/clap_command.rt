@@ -54,7 +54,8 @@ fn with_positionals<'a>(
     command: Command<'a>,
     ids: &[&'a str],
 ) -> Result<Command<'a>, AllocError>
-    ensures { IfOk result (λ c. app_of c ≡ fold with_rule (app_of command.entry) (map (λ id. positional id.now) ids.now)) }
+    ensures { IfOk result (λ c. app_of c
+        ≡ fold with_rule (app_of command.entry) (map (λ id. positional id.now) ids.now)) }
 {
     let mut command = command;
     for id in ids {
@@ -68,7 +69,8 @@ fn with_options<'a>(
     command: Command<'a>,
     names: &[&'a str],
 ) -> Result<Command<'a>, AllocError>
-    ensures { IfOk result (λ c. app_of c ≡ fold with_rule (app_of command.entry) (map (λ name. option name.now) names.now)) }
+    ensures { IfOk result (λ c. app_of c
+        ≡ fold with_rule (app_of command.entry) (map (λ name. option name.now) names.now)) }
 {
     let mut command = command;
     for name in names {

@@ -6,7 +6,7 @@ use sb_text::Text;
 pub type Files = Items<(Text, Text)>;
 
 /// The options of `run`.
-#[derive(Clone, Copy, Debug, PartialEq, Eq)]
+#[derive(Clone, Copy, PartialEq, Eq)]
 pub struct Settings {
     /// Threads that work, 0 to 16.
     pub workers: u32,
@@ -25,7 +25,7 @@ pub struct Settings {
 }
 
 /// A command.
-#[derive(Debug, Drop)]
+#[derive(Drop)]
 pub enum Command {
     /// Prints the program as it is understood.
     Check {

@@ -11,7 +11,8 @@ use std::alloc::Global;
 
 /// The first value of an argument.
 pub fn value<'a>(matches: &ArgMatches<'a>, id: &str) -> Option<&'a str>
-    ensures { option_map (λ text. text.now) result ≡ first_of id.now (rows_of (found_of matches.now)) }
+    ensures { option_map (λ text. text.now) result
+        ≡ first_of id.now (rows_of (found_of matches.now)) }
 {
     matches.get_str(id)
 }

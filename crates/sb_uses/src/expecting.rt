@@ -1,0 +1,13 @@
+//! What a test wants. A call costs less proof than the macro in its place.
+use std::fmt::Debug;
+use std::process::Abort;
+
+/// Stops the test where two values differ, and shows both.
+pub fn equal<T: PartialEq + Debug + Drop>(rt: &impl Abort, came: T, wanted: T) {
+    assert_eq!(rt; came, wanted);
+}
+
+/// Stops the test where what it wants doesn't hold.
+pub fn holds(rt: &impl Abort, wanted: bool) {
+    assert!(rt; wanted);
+}
