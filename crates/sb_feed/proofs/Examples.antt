@@ -1,5 +1,5 @@
 -- Three records, two keys, two batches: folds, and sums that stand for the log and that don't.
-use Rattle.std.proofs.Common.{◌≡◌, ℕ, ◌+◌, true, ◌&&◌, ◌||◌, List, [], ◌∷◌, Option, Some, None, refl, arith}
+use Rattle.std.proofs.Common.{◌≡◌, ℕ, ◌+◌, ◌&&◌, ◌||◌, List, [], ◌∷◌, Option, Some, None, refl, arith}
 use Rattle.std.specs.Prelude.{◌==◌, codes}
 use Rattle.sb_feed.specs.declared.key.KeyBytes.{KeyBytes}
 use Rattle.sb_feed.specs.declared.parts.Part.{Part}

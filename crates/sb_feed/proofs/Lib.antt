@@ -4,3 +4,4 @@ pub mod Examples
 pub mod LogValues
 pub mod Searched
 pub mod Meant
+pub mod Indexed

@@ -4,4 +4,5 @@ pub mod Cuts
 pub mod Places
 pub mod Jobs
 pub mod Feeds
+pub mod Index
 pub mod Stands

@@ -4,6 +4,7 @@ ghost use Rattle.std.specs.List.{AllByRecursion};
 ghost use Rattle.sb_feed.specs.Jobs.{Record, IsRecord, meant};
 ghost use Rattle.sb_feed.specs.Limits.{last_batch};
 ghost use Rattle.sb_feed.specs.Feeds.{parts_at};
+ghost use Rattle.sb_feed.specs.Index.{positions_of};
 
 use crate::NoMemory;
 use crate::family::Family;
@@ -27,6 +28,10 @@ pub trait Feed: Family {
         requires { i < length (records self.now) }
         ensures batch { result ≡ slice_index (map (λ r. r.batch) (records self.now)) i }
         ensures limit { result ≤ last_batch };
+
+    /// The positions of a batch's records, in rising order; a batch without records has none. Takes constant time.
+    fn positions(&self, batch: u64) -> &[u64]
+        ensures { result.now ≡ positions_of (map (λ r. r.batch) (records self.now)) batch };
 
     /// Appends the parts of a record: each key at most once, in rising order. A refusal leaves `out` as it was.
     fn emit(

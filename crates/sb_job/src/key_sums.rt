@@ -8,7 +8,7 @@ ghost use Rattle.sb_feed.specs.declared.key.KeyBytes.{KeyBytes as Key};
 ghost use Rattle.sb_feed.specs.Keys.{key_order, same_key};
 ghost use Rattle.sb_feed.specs.Jobs.{AreValid, meant, valid_by};
 ghost use Rattle.sb_feed.specs.Stands.{keyed_values};
-ghost use Rattle.sb_job.specs.Sums.{AreKeySums, HasKeySums};
+ghost use Rattle.sb_job.specs.Sums.{HasKeySums};
 
 use sb_feed::{Family, KeyBytes, Part, RowList};
 use sb_laws::{NoMemory, Semigroup};
@@ -102,7 +102,7 @@ impl<E> KeySums<E> {
         &mut self,
         alloc: Global,
         family: &F,
-        parts: Vec<Part<E>>,
+        mut parts: Vec<Part<E>>,
     ) -> Result<(), NoMemory>
     where
         E: Drop,
@@ -116,7 +116,31 @@ impl<E> KeySums<E> {
             → HasKeySums (meant F.M.valid F.M.add (F.monoids family.now))
             (values ++ keyed_values parts.items) self.new) }
     {
-        for part in parts {
+        self.drain_parts(alloc, family, &mut parts)
+    }
+
+    /// Takes parts out of their `Vec`, whose room stays, and adds their values, one after the other. After a refusal
+    /// those before the refused one are added.
+    pub fn drain_parts<F: Family>(
+        &mut self,
+        alloc: Global,
+        family: &F,
+        parts: &mut Vec<Part<E>>,
+    ) -> Result<(), NoMemory>
+    where
+        E: Drop,
+        F::M: Semigroup<El = E>,
+        requires parts { AreValid (meant F.M.valid F.M.add (F.monoids family.now))
+            (keyed_values parts.old.items) }
+        requires sums { AreValid (meant F.M.valid F.M.add (F.monoids family.now)) self.old }
+        ensures none { OnOk result (parts.new.items ≡ []) }
+        ensures valid { AreValid (meant F.M.valid F.M.add (F.monoids family.now)) self.new }
+        ensures sums { OnOk result ((values : List (Key × E))
+            → HasKeySums (meant F.M.valid F.M.add (F.monoids family.now)) values self.old
+            → HasKeySums (meant F.M.valid F.M.add (F.monoids family.now))
+            (values ++ keyed_values parts.old.items) self.new) }
+    {
+        for part in parts.drain(..) {
             let Part { key, value, .. } = part;
             self.add(alloc, family, key, value)?;
         }
@@ -156,21 +180,4 @@ fn sort_rows<E>(rows: &mut Vec<(KeyBytes, E)>)
     ensures sorted { IsSortedByKey (λ row. row.0) key_order rows.new.items }
 {
     rows.sort_unstable_by(|a, b| a.0.cmp(&b.0));
-}
-
-/// The sum of each key's parts from left to right.
-pub fn sum_parts<F: Family>(
-    alloc: Global,
-    family: &F,
-    parts: Vec<Part<<F::M as Semigroup>::El>>,
-) -> Result<RowList<<F::M as Semigroup>::El>, NoMemory>
-    requires { AreValid (meant F.M.valid F.M.add (F.monoids family.now))
-        (keyed_values parts.items) }
-    ensures { IfOk result (AreKeySums (meant F.M.valid F.M.add (F.monoids family.now))
-        (keyed_values parts.items)) }
-{
-    let mut sums = KeySums::new(alloc);
-    sums.add_parts(alloc, family, parts)?;
-    let rows = sums.into_rows(alloc)?;
-    Ok(rows)
 }

@@ -115,6 +115,11 @@ pub limit_there : (d : Dictionaries Agg) (entries : List (Entry Agg)) (i : ℕ) 
     → entry.batch ≤ last_batch
 limit_there d entries i entry h e records = (record_at (IsRecord d) entries i entry (subst (λ n. i < n) (length-map entries entry_record) h) e records).batch
 
+-- the batches of records are within the limit
+pub few_batches : (d : Dictionaries Agg) (records : List (Record Agg)) → AllByRecursion (IsRecord d) records → AllByRecursion (λ r. r.batch ≤ last_batch) records
+few_batches d [] h = tt
+few_batches d (r ∷ records) h = (h.0.batch, few_batches d records h.1)
+
 -- ---- what is emitted into one store
 
 positions_back : (n : ℕ) (all : List Emitted) → AllByRecursion (λ e. e.position < n) (map by_text (map emission_of all)) → AllByRecursion (λ e. e.position < n) all

@@ -1,10 +1,11 @@
 -- What contracts see of the stores and the records of a run.
 use Rattle.std.specs.Prelude.{◌≡◌, ℕ, suc, ◌<◌, ◌==◌, Bool, List, [], ◌∷◌, length, map, slice_get, Some, unwrap_or}
 use Rattle.std.specs.FinMap.{find}
+use Rattle.std.specs.List.{AllByRecursion}
 use Rattle.sb_batcher.specs.Batches.{Batching, batch_of}
 use Rattle.sb_check.specs.Log.{Logged}
 use Rattle.sb_check.specs.Programs.{CheckedProgram}
-use Rattle.sb_feed.specs.Jobs.{Record, values_from}
+use Rattle.sb_feed.specs.Jobs.{Record, IsRecord, meant, values_from}
 use Rattle.sb_feed.specs.Keys.{key_order}
 use Rattle.sb_kind.specs.Elements.{IsOf, plus}
 use Rattle.sb_kind.specs.KindView.{monoid_of}
@@ -69,6 +70,11 @@ valid_at c store = IsOf (monoid_at c store)
 
 abbrev pub plus_at : CheckedProgram → ℕ → Agg → Agg → Agg
 plus_at c store = plus (monoid_at c store)
+
+-- the records are valid by these dictionaries, and the index has the batch of each
+pub record AreIndexed (monoids : List OnlineM) (index : List ℕ) (records : List (Record Agg)) : Type 0 where
+  pub valid : AllByRecursion (IsRecord (meant online_valid online_add monoids)) records
+  pub batches : index ≡ map (λ r. r.batch) records
 
 -- The runner's records are those of the log, in the batches of their times. The part of a key at a record is the sum of what is emitted
 -- there with the key; so the folds over the records are those over the emissions.

@@ -18,7 +18,7 @@ use crate::emitting::{add_stores, bare};
 use crate::parts::Entry;
 use crate::stores::Stores;
 use sb_check::{Log, Online, StoreDecl};
-use sb_feed::{Family, Feed, KeyBytes, Part, Printed};
+use sb_feed::{BatchIndex, Family, Feed, KeyBytes, Part, Printed};
 use sb_kind::{Agg, Kind, OnlineM, copy, text};
 use sb_laws::Key;
 use sb_meaning::copy_kind;
@@ -27,19 +27,19 @@ use sb_text::{NoMemory, Text};
 use std::alloc::{AllocError, Global};
 use std::marker::Model;
 
-/// An admitted program over a log: its stores, and each record with its batch and the sum of what it adds to each key.
+/// An admitted program over a log: its stores, each record with its batch and the sum of what it adds to each key, and
+/// the positions of each batch's records.
 #[derive(Drop)]
 pub struct OnlineRunner {
     stores: Stores<OnlineM>,
     entries: Vec<Entry<Agg>>,
+    index: BatchIndex,
 }
 
 impl Model for OnlineRunner {
     ghost use Rattle.std.specs.Prelude.{map};
-    ghost use Rattle.std.specs.List.{AllByRecursion};
-    ghost use Rattle.sb_feed.specs.Jobs.{IsRecord, meant};
     ghost use Rattle.sb_plan.specs.Entries.{entry_record};
-    ghost use Rattle.sb_plan.specs.Runners.{RunnerValue, online_add, online_valid};
+    ghost use Rattle.sb_plan.specs.Runners.{AreIndexed, RunnerValue};
     ghost use Rattle.std.specs.Coded.{codes};
     ghost use Rattle.sb_kind.specs.contracts.agg.Agg as agg;
     ghost use Rattle.sb_kind.specs.contracts.kind.Kind as kind;
@@ -50,7 +50,7 @@ impl Model for OnlineRunner {
 
     ghost view = { λ r. record { stores = r.stores; records = map entry_record r.entries.items } };
 
-    ghost invariant = { λ r. AllByRecursion (IsRecord (meant online_valid online_add r.stores.monoids)) (map entry_record r.entries.items) };
+    ghost invariant = { λ r. AreIndexed r.stores.monoids r.index (map entry_record r.entries.items) };
 }
 
 impl OnlineRunner {
@@ -71,7 +71,12 @@ impl OnlineRunner {
         let stores = Stores::new(dictionaries(alloc, c.stores())?)?;
         let mut entries = bare(alloc, c.batcher(), log.records())?;
         add_stores(alloc, o, log, services, &stores, &mut entries)?;
-        Ok(OnlineRunner { stores, entries })
+        let index = index_of(alloc, &entries)?;
+        Ok(OnlineRunner {
+            stores,
+            entries,
+            index,
+        })
     }
 
     fn entry(&self, i: u64) -> &Entry<Agg>
@@ -82,6 +87,17 @@ impl OnlineRunner {
     {
         &self.entries[i as usize]
     }
+}
+
+fn index_of(alloc: Global, entries: &[Entry<Agg>]) -> Result<BatchIndex, NoMemory>
+    requires { AllByRecursion (λ r. r.batch ≤ last_batch) (map entry_record entries.now) }
+    ensures { IfOk result (λ index. index ≡ map (λ r. r.batch) (map entry_record entries.now)) }
+{
+    let mut index = BatchIndex::new(alloc);
+    for entry in entries {
+        index.push(entry.batch)?;
+    }
+    Ok(index)
 }
 
 fn dictionaries(alloc: Global, stores: &[StoreDecl]) -> Result<Vec<(Text, OnlineM)>, NoMemory>
@@ -156,6 +172,10 @@ impl Feed for OnlineRunner {
 
     fn batch(&self, i: u64) -> u64 {
         self.entry(i).batch
+    }
+
+    fn positions(&self, batch: u64) -> &[u64] {
+        self.index.positions(batch)
     }
 
     fn emit(&self, alloc: Global, i: u64, out: &mut Vec<Part<Agg>>) -> Result<(), NoMemory> {

@@ -7,7 +7,7 @@ use Rattle.std.proofs.Math.Nat.{le-div_iff_mul-le}
 use Rattle.sb_text.specs.Ranges.{put, union}
 use Rattle.sb_laws.proofs.Positions.{ap_both}
 use Rattle.sb_feed.specs.Places.{is_in}
-use Rattle.sb_session.specs.Emitted.{is_between}
+use Rattle.sb_job.specs.Emitted.{is_between}
 
 pub range_append : (a n b m k : ℕ) → b ≡ a + n → k ≡ n + m → range_with_len a n ++ range_with_len b m ≡ range_with_len a k
 range_append a zero b m k e f = ap_both range_with_len (omega (arith, e)) (omega (arith, f))

@@ -1,20 +1,12 @@
--- The parts of the records at positions, position by position, and the values of a key in them.
-use Rattle.std.proofs.Common.{◌≡◌, ℕ, zero, suc, ◌+◌, ◌<◌, ◌≤◌, Bool, true, false, cond, ◌&&◌, List, [], ◌∷◌, ◌++◌, length, map, filter, refl, sym, ap, ◌∙◌, arith, append_assoc, append-nil}
+-- The parts of the records at positions, position by position, and the number of batches.
+use Rattle.std.proofs.Common.{◌≡◌, ℕ, zero, suc, ◌+◌, ◌<◌, ◌≤◌, Bool, true, false, cond, ◌&&◌, List, [], ◌∷◌, ◌++◌, length, refl, sym, ap, ◌∙◌, arith, append_assoc, append-nil}
 use Rattle.std.specs.Prelude.{nat_lt, nat_le, slice_index, max, take}
 use Rattle.std.proofs.lemmas.Bool.{lt-ltb, le-ltb, le-leb, ltb-true, leb-true}
-use Rattle.std.proofs.lemmas.List.{map-append}
-use Rattle.std.proofs.lemmas.List.Elements.{filter-append}
-use Rattle.sb_laws.specs.Tables.{values_at}
 use Rattle.sb_laws.proofs.Positions.{ap_both}
-use Rattle.sb_feed.specs.declared.key.KeyBytes.{KeyBytes}
-use Rattle.sb_feed.specs.declared.parts.Part.{Part}
 use Rattle.sb_feed.specs.Feeds.{parts_of, parts_at}
 use Rattle.sb_feed.specs.Places.{batch_count}
-use Rattle.sb_feed.specs.Jobs.{Record, values_from}
-use Rattle.sb_feed.specs.Keys.{key_order, same_key}
-use Rattle.sb_feed.specs.Stands.{batch_value, key_values}
-use Rattle.sb_feed.proofs.PartSums.{values_append}
-use Rattle.sb_session.specs.Emitted.{parts_where, is_between}
+use Rattle.sb_feed.specs.Jobs.{Record}
+use Rattle.sb_job.specs.Emitted.{parts_where, is_between}
 
 and_true : (x y : Bool) → y ≡ true → (x && y) ≡ x
 and_true true y e = e
@@ -51,13 +43,6 @@ module _ {E : Type 0} where
       (parts_next p (suc a) n i j records (omega (arith, e)) f (omega (arith, less)))
       ∙ sym (append_assoc (cond (p a && nat_lt a i) (parts_of r) []) (parts_where (λ k. p k && nat_lt k i) (suc a) records) (cond (p i) (parts_at records n) []))
 
-  -- all records are below the end
-  pub parts_all : (p : ℕ → Bool) (i : ℕ) (records : List (Record E)) → i ≡ length records → parts_where (λ k. p k && nat_lt k i) 0 records ≡ parts_where p 0 records
-  parts_all p i records e = parts_same (λ k. p k && nat_lt k i) p 0 i records (omega (arith, e)) (λ k le less. and_true (p k) (nat_lt k i) (lt-ltb k i less))
-
-  pub parts_none_yet : (p : ℕ → Bool) (records : List (Record E)) → parts_where (λ k. p k && nat_lt k 0) 0 records ≡ []
-  parts_none_yet p records = parts_none (λ k. p k && nat_lt k 0) 0 records (λ k le. and_false (p k) (nat_lt k 0) (le-ltb k 0 (omega arith)))
-
   -- those below the end of a range
   pub parts_range : (from to : ℕ) (records : List (Record E)) → parts_where (λ k. is_between from to k && nat_lt k to) 0 records ≡ parts_where (is_between from to) 0 records
   parts_range from to records = parts_same (λ k. is_between from to k && nat_lt k to) (is_between from to) 0 (length records) records (omega arith) (λ k le less. twice (nat_le from k) (nat_lt k to))
@@ -76,57 +61,6 @@ module _ {E : Type 0} where
       apart k true true false e f = refl
       apart k true false false e f = refl
       apart k false y z e f = refl
-
-  -- the records have these batches, the first being that of position i
-  abbrev pub HaveBatches : (ℕ → ℕ) → ℕ → List (Record E) → Type 0
-  HaveBatches b i [] = Unit {0}
-  HaveBatches b i (r ∷ records) = (b i ≡ r.batch) × HaveBatches b (suc i) records
-
-  of_record : (key : KeyBytes) (batch i : ℕ) (parts : List (KeyBytes × E)) → key_values key (map (λ (part : KeyBytes × E). record { key = part.0; batch = batch; value = part.1 }) parts)
-      ≡ map (λ value. (batch, value)) (values_at key_order key parts)
-  of_record key batch i [] = refl
-  of_record key batch i (part ∷ parts) = elim (same_key key part.0) as (λ b. map batch_value (cond b (record { key = part.0; batch = batch; value = part.1 } ∷ filter (λ (x : Part E). same_key key x.key) (map (λ (x : KeyBytes × E). record { key = x.0; batch = batch; value = x.1 }) parts)) (filter (λ (x : Part E). same_key key x.key) (map (λ (x : KeyBytes × E). record { key = x.0; batch = batch; value = x.1 }) parts)))
-      ≡ map (λ value. (batch, value)) (map (λ (x : KeyBytes × E). x.1) (cond b (part ∷ filter (λ x. same_key key x.0) parts) (filter (λ x. same_key key x.0) parts)))) [
-        | true ↦ ap (λ l. (batch, part.1) ∷ l) (of_record key batch i parts)
-        | false ↦ of_record key batch i parts
-      ]
-
-  onto_placed : (passes : ℕ → Bool) (b : ℕ → ℕ) (i : ℕ) (v : E) (values : List E) (rest : List (ℕ × E)) (t : Bool)
-      → cond t (map {B = ℕ × E} (λ value. (b i, value)) values) [] ≡ map {B = ℕ × E} (λ (x : ℕ × E). (b x.0, x.1)) rest
-      → cond t (map {B = ℕ × E} (λ value. (b i, value)) (v ∷ values)) [] ≡ map {B = ℕ × E} (λ (x : ℕ × E). (b x.0, x.1)) (cond t ((i, v) ∷ rest) rest)
-  onto_placed passes b i v values rest true h = ap (λ l. (b i, v) ∷ l) h
-  onto_placed passes b i v values rest false h = h
-
-  placed : (passes : ℕ → Bool) (b : ℕ → ℕ) (i : ℕ) (values : List E)
-      → cond (passes i) (map {B = ℕ × E} (λ value. (b i, value)) values) [] ≡ map {B = ℕ × E} (λ (x : ℕ × E). (b x.0, x.1)) (filter (λ x. passes x.0) (map (λ value. (i, value)) values))
-  placed passes b i [] = either (passes i)
-    where
-      either : (t : Bool) → cond {A = List (ℕ × E)} t [] [] ≡ []
-      either true = refl
-      either false = refl
-  placed passes b i (v ∷ values) = onto_placed passes b i v values (filter (λ x. passes x.0) (map (λ value. (i, value)) values)) (passes i) (placed passes b i values)
-
-  if_record : (key : KeyBytes) (r : Record E) (t : Bool) → key_values key (cond t (parts_of r) []) ≡ cond t (map {B = ℕ × E} (λ value. (r.batch, value)) (values_at key_order key r.parts)) []
-  if_record key r true = of_record key r.batch 0 r.parts
-  if_record key r false = refl
-
-  here : (key : KeyBytes) (passes : ℕ → Bool) (b : ℕ → ℕ) (i : ℕ) (r : Record E) → b i ≡ r.batch
-      → key_values key (cond (passes i) (parts_of r) []) ≡ map (λ (x : ℕ × E). (b x.0, x.1)) (filter (λ x. passes x.0) (map (λ value. (i, value)) (values_at key_order key r.parts)))
-  here key passes b i r batch =
-      if_record key r (passes i)
-      ∙ (ap (λ n. cond (passes i) (map {B = ℕ × E} (λ value. (n, value)) (values_at key_order key r.parts)) []) (sym batch) ∙ placed passes b i (values_at key_order key r.parts))
-
-  -- the values of a key in the parts at the positions that pass
-  pub values_where : (key : KeyBytes) (passes : ℕ → Bool) (b : ℕ → ℕ) (i : ℕ) (records : List (Record E)) → HaveBatches b i records
-      → key_values key (parts_where passes i records) ≡ map (λ (x : ℕ × E). (b x.0, x.1)) (filter (λ x. passes x.0) (values_from key i records))
-  values_where key passes b i [] h = refl
-  values_where key passes b i (r ∷ records) h =
-      let first : List (ℕ × E) = map (λ value. (i, value)) (values_at key_order key r.parts) in
-      let test : ℕ × E → Bool = λ x. passes x.0 in
-      values_append key (cond (passes i) (parts_of r) []) (parts_where passes (suc i) records)
-      ∙ (ap_both ◌++◌ (here key passes b i r h.0) (values_where key passes b (suc i) records h.1)
-      ∙ (sym (map-append (λ (x : ℕ × E). (b x.0, x.1)) (filter test first) (filter test (values_from key (suc i) records)))
-      ∙ ap (map (λ (x : ℕ × E). (b x.0, x.1))) (sym (filter-append test first (values_from key (suc i) records)))))
 
 -- one more than the greatest batch of one record more
 pub count_suc : (i : ℕ) (batches : List ℕ) → i < length batches → batch_count (take (suc i) batches) ≡ max (batch_count (take i batches)) (slice_index batches i + 1)

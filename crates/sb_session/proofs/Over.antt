@@ -1,7 +1,7 @@
 -- What a session is over, after each of its events.
-use Rattle.std.proofs.Common.{◌≡◌, ℕ, zero, suc, ◌+◌, ◌-◌, ◌*◌, ◌/◌, ◌<◌, ◌≤◌, Bool, true, false, ◌&&◌, ◌||◌, List, [], ◌∷◌, length, map, Option, Some, None, refl, sym, ap, subst, ◌∙◌, arith}
+use Rattle.std.proofs.Common.{◌≡◌, ℕ, zero, suc, ◌-◌, ◌*◌, ◌/◌, ◌<◌, ◌≤◌, Bool, true, false, ◌&&◌, ◌||◌, List, [], ◌∷◌, length, map, Option, Some, None, refl, sym, ap, subst, ◌∙◌, arith}
 use mathlib.Core.Logic.{inl, inr, ◌⊎◌}
-use Rattle.std.specs.Prelude.{nat_lt, nat_le, ◌==◌, slice_index, slice_index_or, min, Contains}
+use Rattle.std.specs.Prelude.{nat_lt, nat_le, slice_index, slice_index_or, min, Contains}
 use Rattle.std.specs.Int.{div_ceil}
 use Rattle.std.specs.List.{AllByRecursion, range_with_len}
 use Rattle.std.proofs.lemmas.Bool.{lt-ltb, le-leb, ltb-true, ltb-false}
@@ -24,9 +24,9 @@ use Rattle.sb_shard.specs.declared.answer.Answer.{Answer}
 use Rattle.sb_shard.specs.Shards.{ShardValue, shard_sums, cover_of, kept_by}
 use Rattle.sb_shard.specs.Events.{FlushKeeps, InstallKeeps, KeepsOnly}
 use Rattle.sb_shard.specs.Asks.{Answers, values_of, one_or_none, MakesNamed, AreDrained}
-use Rattle.sb_session.specs.Emitted.{parts_where, is_between}
+use Rattle.sb_job.specs.Batches.{AreBatchRows}
+use Rattle.sb_job.specs.Emitted.{parts_where, is_between}
 use Rattle.sb_session.specs.Sessions.{SessionValue, job_by, IsOver, published_by, read_fold, AreAllRows}
-use Rattle.sb_job.specs.Sums.{AreKeySums}
 use Rattle.sb_session.proofs.Covers.{union_next, in_chunks, in_range}
 use Rattle.sb_session.proofs.Sessions.{of_one_shard, is_parcel, are_rows, fold_where}
 
@@ -105,18 +105,16 @@ module _ {M E : Type 0} (valid : M → E → Type 0) (add : M → E → E → E)
         (λ i there. in_chunks before.worked upto before.cut.chunk (length records) from to (upto - before.worked) i some there e (f ∙ ap (min (upto * before.cut.chunk)) over.length) (omega (arith, less)))
 
   -- the next batch is published
-  pub over_published : (before : SessionValue E) (after : ShardValue E) (rows : Rows E) → IsOver valid add monoids records before → published_by before < before.batches → rows.from ≡ published_by before → rows.to ≡ published_by before + 1
-      → AreKeySums d (keyed_values (parts_where (λ i. slice_index (map (λ r. r.batch) records) i == published_by before) 0 records)) rows.rows → InstallKeeps rows before.shard after → KeepsOnly rows before.shard after
-      → cover_of after ≡ cover_of before.shard → IsOver valid add monoids records (record { shard = after; cut = before.cut; batches = before.batches; worked = before.worked })
-  over_published before after rows over below from to sums keeps only cover = record {
+  pub over_published : (before : SessionValue E) (after : ShardValue E) (rows : Rows E) → IsOver valid add monoids records before → published_by before < before.batches → AreBatchRows d records rows → InstallKeeps rows before.shard after
+      → KeepsOnly rows before.shard after → cover_of after ≡ cover_of before.shard → IsOver valid add monoids records (record { shard = after; cut = before.cut; batches = before.batches; worked = before.worked })
+  over_published before after rows over below made keeps only cover = record {
     job = over.job;
     length = over.length;
     one = over.one;
     batches = over.batches;
     worked = over.worked;
     stands = record {
-      folds = keeps d.stores d.add (job before.cut).log 0 (are_rows d (job before.cut).log rows.from rows.to rows.rows (omega (arith, from, to)) over.one (subst (λ p. AreKeySums d (keyed_values (parts_where (λ i. slice_index (map (λ r. r.batch) records) i == p) 0 records)) rows.rows) (sym from) sums))
-          (omega (arith, below, over.batches)) over.stands.folds;
+      folds = keeps d.stores d.add (job before.cut).log 0 (are_rows d (job before.cut).log rows over.one made) (omega (arith, below, over.batches)) over.stands.folds;
       valid = each_contained _ (kept_by after) (λ row held. either row (only row held));
     };
     cover = cover ∙ over.cover;
@@ -126,7 +124,7 @@ module _ {M E : Type 0} (valid : M → E → Type 0) (add : M → E → E → E)
 
     either : (row : KeyBytes × E) → Contains (kept_by before.shard) row ⊎ Contains rows.rows row → P row
     either row (inl c) = at_place P (kept_by before.shard) row row c.0 c.1 c.2 over.stands.valid
-    either row (inr c) = at_place P rows.rows row row c.0 c.1 c.2 sums.valid
+    either row (inr c) = at_place P rows.rows row row c.0 c.1 c.2 made.valid
 
   -- the values that a shard answers are valid
   pub answered_valid : (session : SessionValue E) (key : KeyBytes) (upto : ℕ) (answer : Answer E) → IsOver valid add monoids records session → key.store < d.stores → SemigroupLaws (d.valid key.store) (d.add key.store)

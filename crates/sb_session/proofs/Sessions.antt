@@ -1,23 +1,22 @@
 -- The parts that a session works and the rows that it publishes stand for their chunks and batches.
 use Rattle.std.proofs.Common.{◌≡◌, ℕ, suc, ◌+◌, ◌%◌, ◌<◌, ◌≤◌, Bool, true, false, cond, ◌&&◌, List, [], ◌∷◌, ◌++◌, length, map, filter, refl, sym, ap, subst, ◌∙◌, arith}
-use Rattle.std.specs.Prelude.{nat_lt, nat_le, ◌==◌, slice_index}
+use Rattle.std.specs.Prelude.{◌==◌}
 use Rattle.std.specs.List.{AllByRecursion}
-use Rattle.std.proofs.lemmas.Bool.{ltb-true, ltb-false, leb-true, leb-false, eqb-true, eqb-false}
 use Rattle.sb_laws.specs.Sums.{sum_of}
 use Rattle.sb_laws.specs.Folds.{fold_over}
 use Rattle.sb_laws.specs.Tables.{values_at}
 use Rattle.sb_laws.proofs.Positions.{fold_same}
 use Rattle.sb_feed.specs.declared.key.KeyBytes.{KeyBytes}
 use Rattle.sb_feed.specs.declared.parts.Part.{Part}
-use Rattle.sb_feed.specs.Feeds.{parts_of}
-use Rattle.sb_feed.specs.Jobs.{Record, CutLog, Dictionaries, AreValid, IsRecord, IsLogOf, places_of, values_from, log_values, log_fold}
+use Rattle.sb_feed.specs.declared.rows.Rows.{Rows}
+use Rattle.sb_feed.specs.Jobs.{Record, CutLog, Dictionaries, AreValid, IsLogOf, places_of, values_from, log_values, log_fold}
 use Rattle.sb_feed.specs.Places.{Places, batch_at, chunk_at, is_of_shard, is_in}
-use Rattle.sb_feed.specs.Keys.{key_order, same_key, key_hash}
-use Rattle.sb_feed.specs.Stands.{batch_value, key_values, sum_at, keyed_values, IsParcelOf, AreRowsBy}
-use Rattle.sb_feed.proofs.PartSums.{fold_filter, keyed_append}
-use Rattle.sb_session.specs.Emitted.{parts_where}
-use Rattle.sb_job.specs.Sums.{key_sum, AreKeySums}
-use Rattle.sb_session.proofs.Emitted.{HaveBatches, values_where}
+use Rattle.sb_feed.specs.Keys.{key_order, key_hash}
+use Rattle.sb_feed.specs.Stands.{sum_at, keyed_values, IsParcelOf, AreRowsBy}
+use Rattle.sb_feed.proofs.PartSums.{fold_filter}
+use Rattle.sb_job.specs.Batches.{AreBatchRows}
+use Rattle.sb_job.specs.Emitted.{parts_where, is_between}
+use Rattle.sb_job.proofs.Emitted.{log_batches, values_where, values_placed, where_valid}
 
 filter_where : {A : Type 0} (s t : A → Bool) (xs : List A) → AllByRecursion (λ x. s x ≡ t x) xs → filter s xs ≡ filter t xs
 filter_where s t [] h = refl
@@ -36,14 +35,6 @@ and_turn true false = refl
 and_turn false true = refl
 and_turn false false = refl
 
-same_batch : (b p q : ℕ) (k l m : Bool) → q ≡ p + 1 → (b == p) ≡ k → nat_le p b ≡ l → nat_lt b q ≡ m → k ≡ (true && (l && m))
-same_batch b p q true true true e x y z = refl
-same_batch b p q true true false e x y z = absurd (omega (arith, e, eqb-true, ltb-false))
-same_batch b p q true false m e x y z = absurd (omega (arith, eqb-true, leb-false))
-same_batch b p q false true true e x y z = absurd (omega (arith, e, eqb-false, leb-true, ltb-true))
-same_batch b p q false true false e x y z = refl
-same_batch b p q false false m e x y z = refl
-
 module _ {E : Type 0} where
   of_one : (P : ℕ → Type 0) (i : ℕ) (values : List E) → P i → (xs : List (ℕ × E)) → AllByRecursion (λ x. P x.0) xs → AllByRecursion (λ x. P x.0) (map (λ value. (i, value)) values ++ xs)
   of_one P i [] p xs h = h
@@ -60,14 +51,6 @@ module _ {E : Type 0} where
   fold_where add log key s t h =
       ap (λ l. sum_of add (map (λ (x : ℕ × E). x.1) l)) (filter_where (λ (x : ℕ × E). s x.0) (λ x. t x.0) (log_values log key) (positions (λ k. s k ≡ t k) key 0 log.records (λ k le less. h k (omega (arith, less)))))
 
-  batches_from : (b : ℕ → ℕ) (i : ℕ) (records : List (Record E)) → ((k : ℕ) → k < length records → b (i + k) ≡ slice_index (map (λ r. r.batch) records) k) → HaveBatches b i records
-  batches_from b i [] h = tt
-  batches_from b i (r ∷ records) h =
-      (ap b (omega arith) ∙ h 0 (omega arith), batches_from b (suc i) records (λ k less. ap b (omega arith) ∙ h (suc k) (omega (arith, less))))
-
-  log_batches : (log : CutLog E) → HaveBatches (batch_at (places_of log)) 0 log.records
-  log_batches log = batches_from (batch_at (places_of log)) 0 log.records (λ k less. ap (batch_at (places_of log)) (omega arith))
-
   onto_filtered : (b : ℕ → ℕ) (x : ℕ × E) (u : Bool) (ys zs : List (ℕ × E)) → ys ≡ map {B = ℕ × E} (λ x. (b x.0, x.1)) zs → cond u ((b x.0, x.1) ∷ ys) ys ≡ map {B = ℕ × E} (λ x. (b x.0, x.1)) (cond u (x ∷ zs) zs)
   onto_filtered b x true ys zs e = ap (λ l. (b x.0, x.1) ∷ l) e
   onto_filtered b x false ys zs e = e
@@ -76,49 +59,16 @@ module _ {E : Type 0} where
   filter_placed b t [] = refl
   filter_placed b t (x ∷ xs) = onto_filtered b x (t (b x.0)) (filter (λ (y : ℕ × E). t y.0) (map {B = ℕ × E} (λ x. (b x.0, x.1)) xs)) (filter (λ x. t (b x.0)) xs) (filter_placed b t xs)
 
-  values_placed : (b : ℕ → ℕ) (xs : List (ℕ × E)) → map (λ (y : ℕ × E). y.1) (map {B = ℕ × E} (λ x. (b x.0, x.1)) xs) ≡ map (λ x. x.1) xs
-  values_placed b [] = refl
-  values_placed b (x ∷ xs) = ap (λ l. x.1 ∷ l) (values_placed b xs)
-
   -- the sum of a key's parts of a batch, of the parts at the positions that pass
   sum_where : (add : ℕ → E → E → E) (log : CutLog E) (passes : ℕ → Bool) (key : KeyBytes) (j : ℕ)
       → sum_at add key j (parts_where passes 0 log.records) ≡ log_fold add log key (λ i. passes i && (batch_at (places_of log) i == j))
   sum_where add log passes key j =
       let b = batch_at (places_of log) in
       let xs : List (ℕ × E) = filter (λ x. passes x.0) (log_values log key) in
-      ap (λ l. fold_over (add key.store) l (λ n. n == j)) (values_where key passes b 0 log.records (log_batches log))
+      ap (λ l. fold_over (add key.store) l (λ n. n == j)) (values_where key passes b 0 log.records (log_batches log.records))
       ∙ (ap (λ l. sum_of (add key.store) (map (λ (x : ℕ × E). x.1) l)) (filter_placed b (λ n. n == j) xs)
       ∙ (ap (sum_of (add key.store)) (values_placed b (filter (λ x. b x.0 == j) xs))
       ∙ fold_filter (add key.store) passes (λ i. b i == j) (log_values log key)))
-
-  onto_values : (part : Part E) (u : Bool) (xs : List (KeyBytes × E)) (ys : List (Part E)) → map (λ (x : KeyBytes × E). x.1) xs ≡ map (λ (x : ℕ × E). x.1) (map batch_value ys)
-      → map (λ (x : KeyBytes × E). x.1) (cond u ((part.key, part.value) ∷ xs) xs) ≡ map (λ (x : ℕ × E). x.1) (map batch_value (cond u (part ∷ ys) ys))
-  onto_values part true xs ys e = ap (λ l. part.value ∷ l) e
-  onto_values part false xs ys e = e
-
-  of_elements : (key : KeyBytes) (parts : List (Part E)) → values_at key_order key (keyed_values parts) ≡ map (λ (x : ℕ × E). x.1) (key_values key parts)
-  of_elements key [] = refl
-  of_elements key (part ∷ parts) = onto_values part (same_key key part.key) (filter (λ x. same_key key x.0) (keyed_values parts)) (filter (λ x. same_key key x.key) parts) (of_elements key parts)
-
-  -- the sum of a key's parts, of the parts at the positions that pass
-  key_sum_where : (d : Dictionaries E) (log : CutLog E) (passes : ℕ → Bool) (key : KeyBytes) → key_sum d key (keyed_values (parts_where passes 0 log.records)) ≡ log_fold d.add log key passes
-  key_sum_where d log passes key =
-      let b = batch_at (places_of log) in
-      ap (sum_of (d.add key.store)) (of_elements key (parts_where passes 0 log.records)
-      ∙ (ap (map (λ (x : ℕ × E). x.1)) (values_where key passes b 0 log.records (log_batches log)) ∙ values_placed b (filter (λ x. passes x.0) (log_values log key))))
-
-  parts_of_valid : (d : Dictionaries E) (batch : ℕ) (parts : List (KeyBytes × E)) → AreValid d parts → AreValid d (keyed_values (map (λ (part : KeyBytes × E). record { key = part.0; batch = batch; value = part.1 }) parts))
-  parts_of_valid d batch [] h = tt
-  parts_of_valid d batch (part ∷ parts) h = (h.0, parts_of_valid d batch parts h.1)
-
-  if_valid : (d : Dictionaries E) (r : Record E) (t : Bool) → IsRecord d r → AreValid d (keyed_values (cond t (parts_of r) []))
-  if_valid d r true h = parts_of_valid d r.batch r.parts h.valid
-  if_valid d r false h = tt
-
-  pub where_valid : (d : Dictionaries E) (passes : ℕ → Bool) (i : ℕ) (records : List (Record E)) → AllByRecursion (IsRecord d) records → AreValid d (keyed_values (parts_where passes i records))
-  where_valid d passes i [] h = tt
-  where_valid d passes i (r ∷ records) h =
-      keyed_append d (cond (passes i) (parts_of r) []) (parts_where passes (suc i) records) (if_valid d r (passes i) h.0) (where_valid d passes (suc i) records h.1)
 
   -- the parts at the positions of chunks stand for these, where there is one shard
   pub is_parcel : (d : Dictionaries E) (log : CutLog E) (passes : ℕ → Bool) (chunks : List ℕ) (parts : List (Part E)) → IsLogOf d log → log.shards ≡ 1 → parts ≡ parts_where passes 0 log.records
@@ -131,11 +81,9 @@ module _ {E : Type 0} where
     valid = subst (λ l. AreValid d (keyed_values l)) (sym are) (where_valid d passes 0 log.records valid);
   }
 
-  -- the sums of a batch's parts by key are its rows, where there is one shard
-  pub are_rows : (d : Dictionaries E) (log : CutLog E) (p q : ℕ) (rows : List (KeyBytes × E)) → q ≡ p + 1 → log.shards ≡ 1 → AreKeySums d (keyed_values (parts_where (λ i. batch_at (places_of log) i == p) 0 log.records)) rows
-      → AreRowsBy d.stores d.add log 0 (record { from = p; to = q; rows = rows })
-  are_rows d log p q rows e one sums =
-      λ key there. sums.sums key ∙ (key_sum_where d log (λ i. batch_at (places_of log) i == p) key
-      ∙ fold_same (d.add key.store) (log_values log key) (λ i. batch_at (places_of log) i == p) (λ i. is_of_shard (places_of log) 0 key && (nat_le p (batch_at (places_of log) i) && nat_lt (batch_at (places_of log) i) q))
-      (λ i. same_batch (batch_at (places_of log) i) p q _ _ _ e refl refl refl
-      ∙ ap (λ o. o && (nat_le p (batch_at (places_of log) i) && nat_lt (batch_at (places_of log) i) q)) (sym (of_one_shard (places_of log) key one))))
+  -- the rows of batches stand for them, where there is one shard
+  pub are_rows : (d : Dictionaries E) (log : CutLog E) (rows : Rows E) → log.shards ≡ 1 → AreBatchRows d log.records rows → AreRowsBy d.stores d.add log 0 rows
+  are_rows d log rows one made = λ key there.
+      made.folds key
+      ∙ fold_same (d.add key.store) (log_values log key) (λ i. is_between rows.from rows.to (batch_at (places_of log) i)) (λ i. is_of_shard (places_of log) 0 key && is_between rows.from rows.to (batch_at (places_of log) i))
+      (λ i. ap (λ o. o && is_between rows.from rows.to (batch_at (places_of log) i)) (sym (of_one_shard (places_of log) key one)))

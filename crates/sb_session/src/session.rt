@@ -7,9 +7,9 @@ ghost use Rattle.sb_laws.specs.Sums.{sum_of};
 ghost use Rattle.sb_shard.specs.Asks.{values_of};
 ghost use Rattle.sb_session.specs.Sessions.{job_by, IsOver, published_by, read_fold, AreAllRows};
 
-use crate::emitting::{batch_count, parts_between, parts_of_batch};
-use sb_feed::{Cut, Feed, KeyBytes, Parcel, PartList, RowList, Rows, Sums};
-use sb_job::sum_parts;
+use crate::emitting::{batch_count, parts_between};
+use sb_feed::{Cut, Feed, KeyBytes, Parcel, PartList, RowList, Sums};
+use sb_job::job;
 use sb_laws::{Commuting, NoMemory, Semigroup, fold_list};
 use sb_shard::{Answer, AskError, Shard};
 use sb_text::Ranges;
@@ -156,13 +156,8 @@ impl<E: Drop> Session<E> {
         ensures others { (self.new.cut ≡ self.old.cut) × (self.new.worked ≡ self.old.worked)
             × (self.new.batches ≡ self.old.batches) }
     {
-        let parts = parts_of_batch(alloc, feed, batch)?;
-        let rows = sum_parts(alloc, feed, parts)?;
-        self.shard.install(Rows {
-            from: batch,
-            to: batch + 1,
-            rows,
-        })?;
+        let rows = job(alloc, feed, batch, batch + 1)?;
+        self.shard.install(rows)?;
         Ok(())
     }
 

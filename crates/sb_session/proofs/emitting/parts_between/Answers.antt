@@ -1,6 +1,6 @@
 use Rattle.std.proofs.Common.{◌∙◌, ◌&&◌, ◌++◌, ◌≡◌, cond, [], nat_lt, sym, ap, arith}
 use Rattle.sb_feed.specs.Feeds.{parts_at}
-use Rattle.sb_session.specs.Emitted.{parts_where, is_between}
+use Rattle.sb_job.specs.Emitted.{parts_where, is_between}
 use Rattle.sb_session.proofs.Emitted.{parts_next, parts_before, parts_range, is_within}
 use Rattle.sb_session.proofs.emitting.parts_between.Goals as goal
 

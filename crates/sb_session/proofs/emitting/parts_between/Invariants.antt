@@ -1,6 +1,6 @@
 use Rattle.std.proofs.Common.{◌≡◌, ◌≤◌, ◌&&◌}
 use Rattle.std.specs.Prelude.{nat_lt}
-use Rattle.sb_session.specs.Emitted.{parts_where, is_between}
+use Rattle.sb_job.specs.Emitted.{parts_where, is_between}
 use Rattle.sb_session.proofs.emitting.parts_between.Given as goal
 
 abbrev pub invariant-loop-i : goal.invariant-loop-i

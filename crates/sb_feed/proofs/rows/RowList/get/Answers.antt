@@ -1,4 +1,4 @@
-use Rattle.std.proofs.Common.{◌∙◌, ap, sym, subst, Some, rules}
+use Rattle.std.proofs.Common.{◌∙◌, ap, sym, Some, rules}
 use Rattle.std.specs.FinMap.{find}
 use Rattle.std.proofs.lemmas.Fn.{always_returns_same}
 use Rattle.sb_laws.proofs.Tables.{truly}

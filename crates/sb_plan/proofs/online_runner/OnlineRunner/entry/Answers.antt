@@ -7,4 +7,4 @@ use Rattle.sb_plan.proofs.online_runner.OnlineRunner.entry.Goals as goal
 pub returns-clause-limit : goal.returns-clause-limit
 returns-clause-limit c =
     limit_there (meant online_valid online_add c.self.inside.stores.monoids) c.self.inside.entries.items c.args.i c.index.result.now
-    (subst (λ runner. c.args.i < length runner.records) (sym c.self.view_is) c.requires) c.index.ensures c.self.invariant
+    (subst (λ runner. c.args.i < length runner.records) (sym c.self.view_is) c.requires) c.index.ensures c.self.invariant.valid

@@ -1,17 +1,18 @@
 use Rattle.std.proofs.Common.{◌≡◌, ◌∙◌, ap, sym, subst, true, map}
+use Rattle.std.specs.List.{AllByRecursion}
 use Rattle.sb_check.specs.Admission.{all_commute}
 use Rattle.sb_check.specs.Declarations.{Store}
 use Rattle.sb_check.specs.Log.{logged_of}
 use Rattle.sb_check.specs.LogView.{view_log}
 use Rattle.sb_check.specs.OnlineView.{online_of}
 use Rattle.sb_check.specs.Programs.{CheckedProgram}
-use Rattle.sb_feed.specs.Jobs.{meant}
+use Rattle.sb_feed.specs.Jobs.{IsRecord, meant}
 use Rattle.sb_meaning.specs.Emissions.{logged_in}
 use Rattle.sb_service.specs.Views.{view_service}
 use Rattle.sb_plan.specs.Entries.{entry_record}
 use Rattle.sb_plan.specs.Parts.{bare}
 use Rattle.sb_plan.specs.Runners.{batch_by, batch_in, online_add, online_monoid, online_valid}
-use Rattle.sb_plan.proofs.Running.{first_are_records, runs}
+use Rattle.sb_plan.proofs.Running.{few_batches, first_are_records, runs}
 use Rattle.sb_plan.proofs.online_runner.OnlineRunner.new.Goals as goal
 
 pub add_stores-requires-clause-records : goal.add_stores-requires-clause-records
@@ -32,3 +33,9 @@ returns c =
     ∙ (ap (λ b. bare (map (batch_by b) (map logged_of c.records.result.now))) (c.batcher.ensures ∙ ap (λ (p : CheckedProgram). p.batching) is)
     ∙ ap (λ rs. bare (map (batch_in (online_of c.args.o.now)) (map logged_of rs))) c.records.ensures.value))
     c.in_ok-add_stores.ensures.value c.requires.placed (subst (λ (p : CheckedProgram). all_commute p.declared.stores ≡ true) is c.checked-c.ensures.any_order) c.in_ok-add_stores.ensures.valid
+
+-- the records are valid once all is added
+pub index_of-requires : goal.index_of-requires
+index_of-requires c =
+    let d = meant online_valid online_add c.in_ok-stores.stores.monoids in
+    few_batches d (map entry_record c.deref.result.now) (subst (λ entries. AllByRecursion (IsRecord d) (map entry_record entries)) (sym c.deref.ensures.value) c.in_ok-add_stores.ensures.records)

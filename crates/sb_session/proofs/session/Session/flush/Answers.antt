@@ -6,11 +6,11 @@ use Rattle.sb_feed.specs.Jobs.{AreValid, meant}
 use Rattle.sb_feed.proofs.Meant.{stores_commute}
 use Rattle.sb_feed.specs.Stands.{keyed_values}
 use Rattle.sb_laws.proofs.Positions.{ap_both}
-use Rattle.sb_session.specs.Emitted.{is_between}
+use Rattle.sb_job.specs.Emitted.{is_between}
 use Rattle.sb_session.specs.Sessions.{IsOver}
 use Rattle.sb_session.proofs.Covers.{fresh_next}
 use Rattle.sb_session.proofs.Over.{over_flushed}
-use Rattle.sb_session.proofs.Sessions.{where_valid}
+use Rattle.sb_job.proofs.Emitted.{where_valid}
 use Rattle.sb_session.proofs.session.Session.flush.Goals as goal
 
 pub chunks_between-requires-clause-limit : goal.chunks_between-requires-clause-limit

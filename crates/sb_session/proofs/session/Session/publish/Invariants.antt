@@ -1,6 +1,5 @@
 use Rattle.std.proofs.Common.{◌≡◌, ◌≤◌}
 use Rattle.std.specs.Prelude.{max}
-use Rattle.sb_feed.specs.Jobs.{meant}
 use Rattle.sb_session.specs.Sessions.{IsOver, published_by}
 use Rattle.sb_session.proofs.session.Session.publish.Given as goal
 
