@@ -8,10 +8,11 @@ use Rattle.sb_text.specs.Decimal.{natural}
 use Rattle.sb_text.specs.Lines.{Line}
 use Rattle.sb_check.specs.Declarations.{Declarations, Store}
 use Rattle.sb_check.specs.Names.{found_from, store_named}
+use Rattle.sb_feed.specs.Limits.{last_batch}
 use Rattle.sb_report.specs.Limits.{most_script_lines, most_asked}
-use Rattle.sb_report.specs.Script.{AsksOf, is_text_of, read_at, read_in, number_in, ask_in, ask_of, onto_asks, asks_of, ReadsScript}
+use Rattle.sb_report.specs.Script.{AsksOf, is_text_of, keyed_at, key_in, read_in, asof_at, asof_in, look_in, number_in, ask_in, ask_of, onto_asks, asks_of, ReadsScript}
 use Rattle.sb_report.specs.declared.script.Ask.{Ask}
-use Rattle.sb_report.specs.declared.script.Ask.TheVariants.{Read, Work, Publish}
+use Rattle.sb_report.specs.declared.script.Ask.TheVariants.{Read, Asof, Look, Work, Publish, Expire}
 use Rattle.sb_report.specs.declared.script.ScriptError.{ScriptError}
 use Rattle.sb_report.specs.declared.script.ScriptError.TheVariants.{BadLine, NoMemory}
 
@@ -36,15 +37,39 @@ module _ (d : Declarations) where
   either true a b h k = h
   either false a b h k = k
 
-  read_at_is : (key : List ℕ) (o : Option (ℕ × Store)) → IfSome o (λ s. s.0 < 0 + length d.stores) → IsNamed (read_at key o)
-  read_at_is key None h = tt
-  read_at_is key (Some s) h = either (is_text_of s.1.key key) (Some (Read s.0 key)) None (omega (arith, h)) tt
+  abbrev IsKeyed : Option (ℕ × List ℕ) → Type 0
+  IsKeyed key = IfSome key (λ k. k.0 < length d.stores)
 
-  read_is : (words : List (List ℕ)) → IsNamed (read_in d words)
-  read_is [] = tt
-  read_is (name ∷ []) = tt
-  read_is (name ∷ key ∷ []) = read_at_is key (store_named d name) (found_within name 0 d.stores)
-  read_is (name ∷ key ∷ word ∷ words) = tt
+  keyed_if : (t : Bool) (k : ℕ × List ℕ) → k.0 < length d.stores → IsKeyed (cond t (Some k) None)
+  keyed_if true k h = h
+  keyed_if false k h = tt
+
+  keyed_is : (key : List ℕ) (o : Option (ℕ × Store)) → IfSome o (λ s. s.0 < 0 + length d.stores) → IsKeyed (keyed_at key o)
+  keyed_is key None h = tt
+  keyed_is key (Some s) h = keyed_if (is_text_of s.1.key key) (s.0, key) (omega (arith, h))
+
+  key_is : (words : List (List ℕ)) → IsKeyed (key_in d words)
+  key_is [] = tt
+  key_is (name ∷ []) = tt
+  key_is (name ∷ key ∷ []) = keyed_is key (store_named d name) (found_within name 0 d.stores)
+  key_is (name ∷ key ∷ word ∷ words) = tt
+
+  asked_is : (ask : ℕ → List ℕ → Ask) → ((store : ℕ) (key : List ℕ) → store < length d.stores → AsksOf (length d.stores) (ask store key))
+      → (o : Option (ℕ × List ℕ)) → IsKeyed o → IsNamed (option_map (λ k. ask k.0 k.1) o)
+  asked_is ask named None h = tt
+  asked_is ask named (Some k) h = named k.0 k.1 h
+
+  asof_at_is : (batch : Option ℕ) (o : Option (ℕ × List ℕ)) → IsKeyed o → IsNamed (asof_at batch o)
+  asof_at_is None o h = tt
+  asof_at_is (Some batch) o h = asked_is (Asof batch) (λ store key lt. lt) o h
+
+  asof_is : (words : List (List ℕ)) → IsNamed (asof_in d words)
+  asof_is [] = tt
+  asof_is (batch ∷ words) = asof_at_is (natural last_batch batch) (key_in d words) (key_is words)
+
+  look_is : (words : List (List ℕ)) → IsNamed (look_in words)
+  look_is [] = tt
+  look_is (word ∷ words) = tt
 
   number_is : (ask : ℕ → Ask) → ((n : ℕ) → AsksOf (length d.stores) (ask n)) → (words : List (List ℕ)) → IsNamed (number_in ask words)
   number_is ask h [] = tt
@@ -54,9 +79,12 @@ module _ (d : Declarations) where
   ask_is : (words : List (List ℕ)) → IsNamed (ask_in d words)
   ask_is [] = tt
   ask_is (word ∷ words) =
-      either (bytes_eq word (codes "read")) _ _ (read_is words)
+      either (bytes_eq word (codes "read")) _ _ (asked_is Read (λ store key lt. lt) (key_in d words) (key_is words))
+      (either (bytes_eq word (codes "asof")) _ _ (asof_is words)
+      (either (bytes_eq word (codes "look")) _ _ (look_is words)
       (either (bytes_eq word (codes "work")) _ _ (number_is Work (λ n. tt) words)
-      (either (bytes_eq word (codes "publish")) _ None (number_is Publish (λ n. tt) words) tt))
+      (either (bytes_eq word (codes "publish")) _ _ (number_is Publish (λ n. tt) words)
+      (either (bytes_eq word (codes "expire")) _ None (number_is Expire (λ n. tt) words) tt)))))
 
   line_is : (line : Line) → IsNamed (ask_of d line)
   line_is line = either (line.ended && nat_le line.number most_script_lines) _ None (ask_is (pieces 32 line.bytes)) tt

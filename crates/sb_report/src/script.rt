@@ -7,9 +7,8 @@ ghost use Rattle.sb_check.specs.Names.{found};
 ghost use Rattle.sb_text.specs.Decimal.{natural};
 ghost use Rattle.sb_text.specs.Lines.{line_view};
 ghost use Rattle.sb_types.specs.TyView.{type_of};
-ghost use Rattle.sb_report.specs.Limits.{most_asked};
 ghost use Rattle.sb_report.specs.declared.script.Ask.{Ask as AskOf};
-ghost use Rattle.sb_report.specs.Script.{ReadsScript, AsksOf, script_of, ask_of, ask_in, read_in, number_in, is_text_of};
+ghost use Rattle.sb_report.specs.Script.{ReadsScript, AsksOf, script_of, ask_of, ask_in, key_in, read_in, asof_in, look_in, number_in, is_text_of};
 
 use sb_check::{Checked, StoreDecl};
 use sb_text::{Columns, Line, Lines, NoMemory, Text, read_u64};
@@ -22,18 +21,27 @@ const BLANK: u8 = b' ';
 // A script has at most so many lines.
 const LINE_LIMIT: u64 = 65_536;
 
-// The greatest number that a line says.
+// The greatest number that a line says, but for a batch.
 const NUMBER_LIMIT: u64 = 65_536;
+
+// The greatest batch.
+const LAST_BATCH: u64 = 65_535;
 
 /// What a line of a script asks.
 #[derive(Drop)]
 pub enum Ask {
     /// The sum of a key of a store. The key is its text.
     Read { store: u32, key: Text },
+    /// The sum up to a batch, which is at most 65,535.
+    Asof { batch: u64, store: u32, key: Text },
+    /// Which chunks are known to be flushed.
+    Look,
     /// To work at most so many of the chunks that are left.
     Work { most: u64 },
     /// To publish the batches below this one.
     Publish { upto: u64 },
+    /// To sum up the batches below this one, so that none of them is told apart any more.
+    Expire { floor: u64 },
 }
 
 /// Why a script isn't read: its first bad line, from 1, or want of memory.
@@ -98,11 +106,20 @@ fn read_words(alloc: Global, c: &Checked, words: &mut Columns<'_>) -> Result<Opt
     if word == b"read".as_slice() {
         return read_read(alloc, c, words);
     }
+    if word == b"asof".as_slice() {
+        return read_asof(alloc, c, words);
+    }
+    if word == b"look".as_slice() {
+        return Ok(read_look(words));
+    }
     if word == b"work".as_slice() {
         return Ok(read_number(words).map(|most| Ask::Work { most }));
     }
     if word == b"publish".as_slice() {
         return Ok(read_number(words).map(|upto| Ask::Publish { upto }));
+    }
+    if word == b"expire".as_slice() {
+        return Ok(read_number(words).map(|floor| Ask::Expire { floor }));
     }
     Ok(None)
 }
@@ -110,6 +127,46 @@ fn read_words(alloc: Global, c: &Checked, words: &mut Columns<'_>) -> Result<Opt
 // What stands behind `read`.
 fn read_read(alloc: Global, c: &Checked, words: &mut Columns<'_>) -> Result<Option<Ask>, NoMemory>
     ensures { IfOk result (λ ask. ask ≡ read_in (checked_of c.now).declared words.old) }
+{
+    match read_key(alloc, c, words)? {
+        Some((store, key)) => Ok(Some(Ask::Read { store, key })),
+        None => Ok(None),
+    }
+}
+
+// What stands behind `asof`.
+fn read_asof(alloc: Global, c: &Checked, words: &mut Columns<'_>) -> Result<Option<Ask>, NoMemory>
+    ensures { IfOk result (λ ask. ask ≡ asof_in (checked_of c.now).declared words.old) }
+{
+    let Some(batch) = words.next() else {
+        return Ok(None);
+    };
+    let Some(batch) = read_up_to(batch, LAST_BATCH) else {
+        return Ok(None);
+    };
+    match read_key(alloc, c, words)? {
+        Some((store, key)) => Ok(Some(Ask::Asof { batch, store, key })),
+        None => Ok(None),
+    }
+}
+
+// What stands behind `look`.
+fn read_look(words: &mut Columns<'_>) -> Option<Ask>
+    ensures { result ≡ look_in words.old }
+{
+    match words.next() {
+        Some(_) => None,
+        None => Some(Ask::Look),
+    }
+}
+
+// A store's number and the text of one of its keys.
+fn read_key(
+    alloc: Global,
+    c: &Checked,
+    words: &mut Columns<'_>,
+) -> Result<Option<(u32, Text)>, NoMemory>
+    ensures { IfOk result (λ key. key ≡ key_in (checked_of c.now).declared words.old) }
 {
     let Some(name) = words.next() else {
         return Ok(None);
@@ -120,21 +177,23 @@ fn read_read(alloc: Global, c: &Checked, words: &mut Columns<'_>) -> Result<Opti
     if words.next().is_some() {
         return Ok(None);
     }
-    read_key_of(alloc, c, name, key)
+    find_key(alloc, c, name, key)
 }
 
-fn read_key_of(alloc: Global, c: &Checked, name: &[u8], key: &[u8]) -> Result<Option<Ask>, NoMemory>
-    ensures { IfOk result (λ ask. ask
-        ≡ read_in (checked_of c.now).declared (name.now ∷ key.now ∷ [])) }
+fn find_key(
+    alloc: Global,
+    c: &Checked,
+    name: &[u8],
+    key: &[u8],
+) -> Result<Option<(u32, Text)>, NoMemory>
+    ensures { IfOk result (λ found. found
+        ≡ key_in (checked_of c.now).declared (name.now ∷ key.now ∷ [])) }
 {
     let Some((at, store)) = find_store(c.stores(), name) else {
         return Ok(None);
     };
-    match read_key(alloc, &store.key, key)? {
-        Some(key) => Ok(Some(Ask::Read {
-            store: number_of(at)?,
-            key,
-        })),
+    match text_of_key(alloc, &store.key, key)? {
+        Some(key) => Ok(Some((number_of(at)?, key))),
         None => Ok(None),
     }
 }
@@ -159,7 +218,7 @@ fn number_of(at: usize) -> Result<u32, NoMemory>
     u32::try_from(at).map_err(|_| AllocError)
 }
 
-// What stands behind `work` and `publish`.
+// What stands behind `work`, `publish` and `expire`.
 fn read_number(words: &mut Columns<'_>) -> Option<u64>
     ensures { (ask : ℕ → AskOf) → option_map ask result ≡ number_in ask words.old }
 {
@@ -167,22 +226,18 @@ fn read_number(words: &mut Columns<'_>) -> Option<u64>
     if words.next().is_some() {
         return None;
     }
-    read_up_to_limit(word)
+    read_up_to(word, NUMBER_LIMIT)
 }
 
-fn read_up_to_limit(bytes: &[u8]) -> Option<u64>
-    ensures { result ≡ natural most_asked bytes.now }
+fn read_up_to(bytes: &[u8], limit: u64) -> Option<u64>
+    ensures { result ≡ natural limit bytes.now }
 {
     let number = read_u64(bytes)?;
-    if number <= NUMBER_LIMIT {
-        Some(number)
-    } else {
-        None
-    }
+    if number <= limit { Some(number) } else { None }
 }
 
 // The key's text, where it is that of a value of the type. Texts of values are UTF-8, so what isn't is none.
-fn read_key(alloc: Global, ty: &Ty, key: &[u8]) -> Result<Option<Text>, NoMemory>
+fn text_of_key(alloc: Global, ty: &Ty, key: &[u8]) -> Result<Option<Text>, NoMemory>
     ensures { IfOk result (λ text. text
         ≡ (if is_text_of (type_of ty.now) key.now then Some key.now else
         None)) }

@@ -18,7 +18,7 @@ use Rattle.sb_run.specs.Run.{Run, report_text, store_name, value_in}
 use Rattle.sb_run.specs.ScriptOutput.{Progress}
 
 abbrev pub progress : SessionValue Agg → Progress
-progress session = record { worked = session.worked; published = published_by session; floor = 0 }
+progress session = record { worked = session.worked; published = published_by session; floor = session.floor }
 
 -- what the dictionaries of a live run mean
 abbrev pub online : RunnerValue → Dictionaries Agg

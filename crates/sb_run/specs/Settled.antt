@@ -5,7 +5,8 @@ use Rattle.sb_report.specs.declared.script.Ask.TheVariants as ask
 use Rattle.sb_report.specs.declared.line.TranscriptLine.{TranscriptLine}
 use Rattle.sb_report.specs.declared.line.TranscriptLine.TheVariants as line
 use Rattle.sb_run.specs.Run.{Run}
-use Rattle.sb_run.specs.Transcript.{IsTranscript, last_published}
+use Rattle.sb_feed.specs.Places.{batches_of}
+use Rattle.sb_run.specs.Transcript.{IsTranscript, last_published, last_floor}
 
 -- whether a publisher works beside the session, and how many published batches it keeps above the floor, where any expire
 pub record Settings : Type 0 where
@@ -21,42 +22,31 @@ abbrev pub SettlesKept : Option ℕ → ℕ → ℕ → Type 0
 SettlesKept None published floor = floor ≡ 0
 SettlesKept (Some n) published floor = (floor ≡ 0) ⊎ (floor + n ≤ published)
 
--- Without a publisher they are those of the last `published` line before it, and of the last `floor` line, of which there is none.
+-- Without a publisher they are those of the last `published` line before it, and of the last `floor` line.
 abbrev pub SettlesNumbers : Bool → Option ℕ → List TranscriptLine → ℕ → ℕ → Type 0
-SettlesNumbers false keep earlier published floor = (published ≡ last_published earlier) × (floor ≡ 0)
+SettlesNumbers false keep earlier published floor = (published ≡ last_published earlier) × (floor ≡ last_floor earlier)
 SettlesNumbers true keep earlier published floor = SettlesKept keep published floor
 
-abbrev pub SettlesRead : Settings → List TranscriptLine → TranscriptLine → Type 0
-SettlesRead settings earlier (line.Read store key value published floor cover) = SettlesNumbers settings.publisher settings.keep earlier published floor
-SettlesRead settings earlier (line.Worked count chunks) = Unit {0}
-SettlesRead settings earlier (line.Published published) = Unit {0}
-SettlesRead settings earlier line.Drained = Unit {0}
-SettlesRead settings earlier (line.Row store key value) = Unit {0}
-SettlesRead settings earlier line.End = Unit {0}
+-- An `expired` line shows no published number. Beside a publisher that of all batches stands for it.
+abbrev pub SettlesFloor : Bool → Option ℕ → ℕ → List TranscriptLine → ℕ → Type 0
+SettlesFloor false keep batches earlier floor = floor ≡ last_floor earlier
+SettlesFloor true keep batches earlier floor = SettlesKept keep batches floor
 
--- how many chunks a line shows, of so many that were asked for; a line that isn't `worked` shows them all
-abbrev pub shows_less : ℕ → TranscriptLine → Bool
-shows_less most (line.Read store key value published floor cover) = false
-shows_less most (line.Worked count chunks) = nat_lt count most
-shows_less most (line.Published published) = false
-shows_less most line.Drained = false
-shows_less most (line.Row store key value) = false
-shows_less most line.End = false
+abbrev pub SettlesRead : Settings → ℕ → List TranscriptLine → TranscriptLine → Type 0
+SettlesRead settings batches earlier (line.Read store key value published floor cover) = SettlesNumbers settings.publisher settings.keep earlier published floor
+SettlesRead settings batches earlier (line.Asof batch store key value published floor cover) = SettlesNumbers settings.publisher settings.keep earlier published floor
+SettlesRead settings batches earlier (line.Expired store key asked floor) = SettlesFloor settings.publisher settings.keep batches earlier floor
+SettlesRead settings batches earlier l = Unit {0}
 
 -- whether a `worked` line shows fewer chunks than were asked for
 abbrev pub is_short : Ask → TranscriptLine → Bool
-is_short (ask.Read store key) l = false
-is_short (ask.Work most) l = shows_less most l
-is_short (ask.Publish upto) l = false
+is_short (ask.Work most) (line.Worked count chunks) = nat_lt count most
+is_short a l = false
 
 -- no `worked` line shows a chunk
 abbrev pub ShowsNone : TranscriptLine → Type 0
-ShowsNone (line.Read store key value published floor cover) = Unit {0}
 ShowsNone (line.Worked count chunks) = count ≡ 0
-ShowsNone (line.Published published) = Unit {0}
-ShowsNone line.Drained = Unit {0}
-ShowsNone (line.Row store key value) = Unit {0}
-ShowsNone line.End = Unit {0}
+ShowsNone l = Unit {0}
 
 -- where no chunk was left, a `worked` line shows none
 abbrev pub SettlesWork : Bool → TranscriptLine → Type 0
@@ -64,14 +54,15 @@ SettlesWork true l = ShowsNone l
 SettlesWork false l = Unit {0}
 
 -- The lines of the asks are settled, one by one, behind these earlier lines. No chunk is left once a `worked` line was short.
-abbrev pub SettleAll : Settings → Bool → List TranscriptLine → List Ask → List TranscriptLine → Type 0
-SettleAll settings none_left earlier [] [] = Unit {0}
-SettleAll settings none_left earlier [] (l ∷ lines) = ⊥
-SettleAll settings none_left earlier (a ∷ asks) [] = ⊥
-SettleAll settings none_left earlier (a ∷ asks) (l ∷ lines) =
-    SettlesRead settings earlier l × SettlesWork none_left l × SettleAll settings (none_left || is_short a l) (earlier ++ l ∷ []) asks lines
+abbrev pub SettleAll : Settings → ℕ → Bool → List TranscriptLine → List Ask → List TranscriptLine → Type 0
+SettleAll settings batches none_left earlier [] [] = Unit {0}
+SettleAll settings batches none_left earlier [] (l ∷ lines) = ⊥
+SettleAll settings batches none_left earlier (a ∷ asks) [] = ⊥
+SettleAll settings batches none_left earlier (a ∷ asks) (l ∷ lines) =
+    SettlesRead settings batches earlier l × SettlesWork none_left l
+    × SettleAll settings batches (none_left || is_short a l) (earlier ++ l ∷ []) asks lines
 
 -- a transcript that is settled
 pub record IsSettled {E : Type 0} (settings : Settings) (run : Run E) (asks : List Ask) (bytes : List ℕ) : Type 0 where
   pub transcript : IsTranscript run asks bytes
-  pub settled : SettleAll settings false [] asks transcript.lines
+  pub settled : SettleAll settings (batches_of run.places) false [] asks transcript.lines

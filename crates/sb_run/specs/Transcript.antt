@@ -1,5 +1,5 @@
 -- What a transcript is: which lines may answer a script, whatever the interleaving behind them.
-use Rattle.std.specs.Prelude.{◌≡◌, ℕ, ◌<◌, ◌≤◌, ◌==◌, min, max, List, [], ◌∷◌, ◌++◌, length, Contains, if◌then◌else◌}
+use Rattle.std.specs.Prelude.{◌≡◌, ℕ, ◌+◌, ◌<◌, ◌≤◌, ◌==◌, min, max, List, [], ◌∷◌, ◌++◌, length, Contains, if◌then◌else◌}
 use Rattle.std.specs.List.{AllByRecursion, flat_map}
 use Rattle.sb_text.specs.Ranges.{IsRising}
 use Rattle.sb_feed.specs.Keys.{shard_of}
@@ -16,48 +16,46 @@ use Rattle.sb_run.specs.ScriptOutput.{transcript_of}
 abbrev pub key_shard : Places → ℕ → List ℕ → ℕ
 key_shard places store key = shard_of places.shards (record { store = store; text = key })
 
--- What a line tells a reader of a shard. A line of another shard tells it nothing.
+-- What a line tells a reader of a shard. A line that shows a key of another shard tells it nothing.
 abbrev pub told_chunks : Places → ℕ → TranscriptLine → List ℕ
 told_chunks places shard (line.Read store key value published floor cover) = if key_shard places store key == shard then cover else []
+told_chunks places shard (line.Asof batch store key value published floor cover) = if key_shard places store key == shard then cover else []
+told_chunks places shard (line.Flushed chunks) = chunks
 told_chunks places shard (line.Worked count chunks) = chunks
-told_chunks places shard (line.Published published) = []
-told_chunks places shard line.Drained = []
-told_chunks places shard (line.Row store key value) = []
-told_chunks places shard line.End = []
+told_chunks places shard l = []
 
 abbrev pub told_published : Places → ℕ → TranscriptLine → ℕ
 told_published places shard (line.Read store key value published floor cover) = if key_shard places store key == shard then published else 0
-told_published places shard (line.Worked count chunks) = 0
+told_published places shard (line.Asof batch store key value published floor cover) = if key_shard places store key == shard then published else 0
 told_published places shard (line.Published published) = published
-told_published places shard line.Drained = 0
-told_published places shard (line.Row store key value) = 0
-told_published places shard line.End = 0
+told_published places shard l = 0
 
 abbrev pub told_floor : Places → ℕ → TranscriptLine → ℕ
 told_floor places shard (line.Read store key value published floor cover) = if key_shard places store key == shard then floor else 0
-told_floor places shard (line.Worked count chunks) = 0
-told_floor places shard (line.Published published) = 0
-told_floor places shard line.Drained = 0
-told_floor places shard (line.Row store key value) = 0
-told_floor places shard line.End = 0
+told_floor places shard (line.Asof batch store key value published floor cover) = if key_shard places store key == shard then floor else 0
+told_floor places shard (line.Expired store key asked floor) = if key_shard places store key == shard then floor else 0
+told_floor places shard (line.Floor floor) = floor
+told_floor places shard l = 0
 
 -- the number of a `published` line, which is 0 for every other one
 abbrev pub published_number : TranscriptLine → ℕ
-published_number (line.Read store key value published floor cover) = 0
-published_number (line.Worked count chunks) = 0
 published_number (line.Published published) = published
-published_number line.Drained = 0
-published_number (line.Row store key value) = 0
-published_number line.End = 0
+published_number l = 0
+
+-- that of a `floor` line
+abbrev pub floor_number : TranscriptLine → ℕ
+floor_number (line.Floor floor) = floor
+floor_number l = 0
 
 -- the chunks of a `worked` line
 abbrev pub worked_chunks : TranscriptLine → List ℕ
-worked_chunks (line.Read store key value published floor cover) = []
 worked_chunks (line.Worked count chunks) = chunks
-worked_chunks (line.Published published) = []
-worked_chunks line.Drained = []
-worked_chunks (line.Row store key value) = []
-worked_chunks line.End = []
+worked_chunks l = []
+
+-- the chunks of a `flushed` or a `worked` line
+abbrev pub flushed_chunks : TranscriptLine → List ℕ
+flushed_chunks (line.Flushed chunks) = chunks
+flushed_chunks l = worked_chunks l
 
 -- the greatest of the numbers of lines
 abbrev pub greatest : (TranscriptLine → ℕ) → List TranscriptLine → ℕ
@@ -77,6 +75,10 @@ known_floor places shard = greatest (told_floor places shard)
 -- the number of the last `published` line, which is the greatest, and 0 before any
 abbrev pub last_published : List TranscriptLine → ℕ
 last_published = greatest published_number
+
+-- the same of the `floor` lines
+abbrev pub last_floor : List TranscriptLine → ℕ
+last_floor = greatest floor_number
 
 -- chunks of the log, in rising order
 pub record AreChunks (places : Places) (chunks : List ℕ) : Type 0 where
@@ -100,36 +102,52 @@ pub record IsGoodWork (places : Places) (lines : List TranscriptLine) (most coun
   pub there : AreChunks places chunks
   pub new : AllByRecursion (λ c. Contains (flat_map worked_chunks lines) c → ⊥) chunks
 
--- the line answers a `read` of this key, behind these earlier lines
+-- An `expired` line has a floor above the batch behind the asked one. It is fresh: the floor is no lower than was known.
+pub record IsGoodExpired (places : Places) (lines : List TranscriptLine) (asked store : ℕ) (key : List ℕ) (floor : ℕ) : Type 0 where
+  pub above : asked + 1 < floor
+  pub batches : floor ≤ batches_of places
+  pub fresh : known_floor places (key_shard places store key) lines ≤ floor
+
+-- a `flushed` line has the chunks of all earlier ones, and of all `worked` lines
+pub record IsGoodLook (places : Places) (lines : List TranscriptLine) (chunks : List ℕ) : Type 0 where
+  pub there : AreChunks places chunks
+  pub fresh : AllByRecursion (Contains chunks) (flat_map flushed_chunks lines)
+
+-- The line may answer the ask, behind these earlier lines. A line of any other form answers it never.
 abbrev pub AnswersRead : {E : Type 0} → Run E → List TranscriptLine → ℕ → List ℕ → TranscriptLine → Type 0
 AnswersRead run lines store key (line.Read s k value published floor cover) = (s ≡ store) × (k ≡ key) × IsGoodRead run lines last_batch store key value published floor cover
-AnswersRead run lines store key (line.Worked count chunks) = ⊥
-AnswersRead run lines store key (line.Published published) = ⊥
-AnswersRead run lines store key line.Drained = ⊥
-AnswersRead run lines store key (line.Row s k value) = ⊥
-AnswersRead run lines store key line.End = ⊥
+AnswersRead run lines store key l = ⊥
+
+abbrev pub AnswersAsof : {E : Type 0} → Run E → List TranscriptLine → ℕ → ℕ → List ℕ → TranscriptLine → Type 0
+AnswersAsof run lines batch store key (line.Asof b s k value published floor cover) =
+    (b ≡ batch) × (s ≡ store) × (k ≡ key) × (floor ≤ batch + 1) × IsGoodRead run lines batch store key value published floor cover
+AnswersAsof run lines batch store key (line.Expired s k asked floor) = (s ≡ store) × (k ≡ key) × (asked ≡ batch) × IsGoodExpired run.places lines batch store key floor
+AnswersAsof run lines batch store key l = ⊥
+
+abbrev pub AnswersLook : Places → List TranscriptLine → TranscriptLine → Type 0
+AnswersLook places lines (line.Flushed chunks) = IsGoodLook places lines chunks
+AnswersLook places lines l = ⊥
 
 abbrev pub AnswersWork : Places → List TranscriptLine → ℕ → TranscriptLine → Type 0
-AnswersWork places lines most (line.Read store key value published floor cover) = ⊥
 AnswersWork places lines most (line.Worked count chunks) = IsGoodWork places lines most count chunks
-AnswersWork places lines most (line.Published published) = ⊥
-AnswersWork places lines most line.Drained = ⊥
-AnswersWork places lines most (line.Row store key value) = ⊥
-AnswersWork places lines most line.End = ⊥
+AnswersWork places lines most l = ⊥
 
 abbrev pub AnswersPublish : Places → List TranscriptLine → ℕ → TranscriptLine → Type 0
-AnswersPublish places lines upto (line.Read store key value published floor cover) = ⊥
-AnswersPublish places lines upto (line.Worked count chunks) = ⊥
 AnswersPublish places lines upto (line.Published published) = published ≡ max (last_published lines) (min upto (batches_of places))
-AnswersPublish places lines upto line.Drained = ⊥
-AnswersPublish places lines upto (line.Row store key value) = ⊥
-AnswersPublish places lines upto line.End = ⊥
+AnswersPublish places lines upto l = ⊥
 
--- the line may answer the ask, behind these earlier lines
+abbrev pub AnswersExpire : List TranscriptLine → ℕ → TranscriptLine → Type 0
+AnswersExpire lines asked (line.Floor floor) = (asked ≤ last_published lines) × (floor ≡ max (last_floor lines) asked)
+AnswersExpire lines asked (line.Refused a published) = (a ≡ asked) × (published ≡ last_published lines) × (published < asked)
+AnswersExpire lines asked l = ⊥
+
 abbrev pub Answers : {E : Type 0} → Run E → List TranscriptLine → Ask → TranscriptLine → Type 0
 Answers run lines (ask.Read store key) l = AnswersRead run lines store key l
+Answers run lines (ask.Asof batch store key) l = AnswersAsof run lines batch store key l
+Answers run lines ask.Look l = AnswersLook run.places lines l
 Answers run lines (ask.Work most) l = AnswersWork run.places lines most l
 Answers run lines (ask.Publish upto) l = AnswersPublish run.places lines upto l
+Answers run lines (ask.Expire floor) l = AnswersExpire lines floor l
 
 -- the lines answer the asks one by one
 abbrev pub AnswerAll : {E : Type 0} → Run E → List TranscriptLine → List Ask → List TranscriptLine → Type 0

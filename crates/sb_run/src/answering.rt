@@ -13,8 +13,9 @@ ghost use Rattle.sb_report.specs.Script.{AsksOf};
 ghost use Rattle.sb_report.specs.Transcript.{line_text, store_name, NamesStore};
 ghost use Rattle.sb_report.specs.declared.script.Ask.TheVariants as ask;
 ghost use Rattle.sb_run.specs.Answering.{progress, online, runner_row, IsOverFeed, Serves};
-ghost use Rattle.sb_run.specs.Run.{Run, report_text};
-ghost use Rattle.sb_run.specs.ScriptOutput.{after, answer_line, lines_text, script_lines, run_text};
+ghost use Rattle.sb_run.specs.Run.{Run, good_value, report_text};
+ghost use Rattle.sb_run.specs.ScriptOutput.{after, answer_line, cover_at, floor_after, lines_text, script_lines, run_text};
+ghost use Rattle.sb_session.specs.Sessions.{published_by, with_floor};
 
 use sb_check::Checked;
 use sb_feed::{Cut, KeyBytes, RowList};
@@ -23,7 +24,7 @@ use sb_kind::{Agg, Kind, text};
 use sb_plan::{OnlineRunner, text_of};
 use sb_report::{Ask, TranscriptLine, write_line, write_row};
 use sb_session::Session;
-use sb_text::{NoMemory, Text};
+use sb_text::{NoMemory, Ranges, Text};
 use std::alloc::Global;
 
 // The batch for which a plain read asks.
@@ -126,8 +127,13 @@ fn answer(
 {
     match ask {
         Ask::Read { store, key } => read(alloc, c, feed, session, store, key),
+        Ask::Asof { batch, store, key } => asof(alloc, c, feed, session, batch, store, key),
+        Ask::Look => Ok(TranscriptLine::Flushed {
+            chunks: session.cover().copy()?,
+        }),
         Ask::Work { most } => work(alloc, c, feed, session, most),
         Ask::Publish { upto } => publish(alloc, c, feed, session, upto),
+        Ask::Expire { floor } => Ok(expire(session, floor)),
     }
 }
 
@@ -148,16 +154,76 @@ fn read(
         ≡ answer_line run (progress session.now) (ask.Read store key)) }
 {
     let asked = KeyBytes { store, text: key };
-    let reading = session.read(alloc, feed, &asked, LAST_BATCH)?;
-    let value = value_text(alloc, c, store, reading.value)?;
+    let (value, cover) = value_at(alloc, c, feed, session, &asked, LAST_BATCH)?;
     Ok(TranscriptLine::Read {
         store,
         key: asked.text,
         value,
-        published: reading.published,
-        floor: 0,
-        cover: reading.cover,
+        published: session.published(),
+        floor: session.floor(),
+        cover,
     })
+}
+
+fn asof(
+    alloc: Global,
+    c: &Checked,
+    feed: &OnlineRunner,
+    session: &Session<Agg>,
+    batch: u64,
+    store: u32,
+    key: Text,
+) -> Result<TranscriptLine, NoMemory>
+    ghost run: { Run Agg }
+    requires serves { Serves (checked_of c.now) feed.now session.now.cut run }
+    requires over { IsOverFeed feed.now session.now }
+    requires store { store < length (checked_of c.now).declared.stores }
+    ensures named { IfOk result (NamesStore (length (checked_of c.now).declared.stores)) }
+    ensures line { IfOk result (λ line. line
+        ≡ answer_line run (progress session.now) (ask.Asof batch store key)) }
+{
+    let floor = session.floor();
+    if batch.saturating_add(1) < floor {
+        return Ok(TranscriptLine::Expired {
+            store,
+            key,
+            asked: batch,
+            floor,
+        });
+    }
+    let asked = KeyBytes { store, text: key };
+    let (value, cover) = value_at(alloc, c, feed, session, &asked, batch)?;
+    Ok(TranscriptLine::Asof {
+        batch,
+        store,
+        key: asked.text,
+        value,
+        published: session.published(),
+        floor,
+        cover,
+    })
+}
+
+// The text of a key's value up to a batch, and the chunks by which it was read.
+fn value_at(
+    alloc: Global,
+    c: &Checked,
+    feed: &OnlineRunner,
+    session: &Session<Agg>,
+    key: &KeyBytes,
+    upto: u64,
+) -> Result<(Text, Ranges), NoMemory>
+    ghost run: { Run Agg }
+    requires serves { Serves (checked_of c.now) feed.now session.now.cut run }
+    requires over { IsOverFeed feed.now session.now }
+    requires store { key.now.store < length (checked_of c.now).declared.stores }
+    ensures value { IfOk result (λ read. read.0 ≡ good_value run key.now.store upto key.now.text
+        (published_by session.now) (cover_at (progress session.now))) }
+    ensures cover { IfOk result (λ read. read.1 ≡ cover_at (progress session.now)) }
+{
+    let reading = session.read(alloc, feed, key, upto)?;
+    let value = value_text(alloc, c, key.store, reading.value)?;
+    Ok((value, reading.cover))
 }
 
 // The text of a sum of a store; no contribution is `()`.
@@ -231,6 +297,23 @@ fn publish(
     Ok(TranscriptLine::Published {
         published: session.published(),
     })
+}
+
+fn expire(session: &mut Session<Agg>, floor: u64) -> TranscriptLine
+    ensures line { (run : Run Agg) → result
+        ≡ answer_line run (progress session.old) (ask.Expire floor) }
+    ensures session { session.new ≡ with_floor session.old
+        (floor_after (progress session.old) floor) }
+{
+    if session.expire(floor) {
+        return TranscriptLine::Floor {
+            floor: session.floor(),
+        };
+    }
+    TranscriptLine::Refused {
+        asked: floor,
+        published: session.published(),
+    }
 }
 
 // Puts a line.

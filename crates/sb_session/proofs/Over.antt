@@ -72,7 +72,7 @@ module _ {M E : Type 0} (valid : M → E → Type 0) (add : M → E → E → E)
   job cut = job_by monoids records cut
 
   pub over_new : (held : ShardValue E) (cut : CutValue) (batches : ℕ) → AllByRecursion (IsRecord d) records → cut.shards ≡ 1 → cut.records ≡ length records → batches ≡ batch_count (map (λ r. r.batch) records)
-      → AreFoldsOf d.stores d.add (job cut).log 0 (shard_sums d.add held) → kept_by held ≡ [] → cover_of held ≡ [] → IsOver valid add monoids records (record { shard = held; cut = cut; batches = batches; worked = 0 })
+      → AreFoldsOf d.stores d.add (job cut).log 0 (shard_sums d.add held) → kept_by held ≡ [] → cover_of held ≡ [] → IsOver valid add monoids records (record { shard = held; cut = cut; batches = batches; worked = 0; floor = 0 })
   over_new held cut batches records' one length' count folds kept cover = record {
     job = records';
     length = length';
@@ -87,7 +87,7 @@ module _ {M E : Type 0} (valid : M → E → Type 0) (add : M → E → E → E)
   pub over_flushed : (before : SessionValue E) (after : ShardValue E) (upto from to : ℕ) (parcel : Parcel E) → Commute d → IsOver valid add monoids records before → 0 < before.cut.chunk → before.worked < upto → upto ≤ chunk_count before.cut
       → from ≡ before.worked * before.cut.chunk → to ≡ min (upto * before.cut.chunk) before.cut.records → parcel.chunks ≡ range_with_len before.worked (upto - before.worked)
       → parcel.parts ≡ parts_where (is_between from to) 0 records → FlushKeeps valid add monoids parcel before.shard after → cover_of after ≡ union (cover_of before.shard) parcel.chunks
-      → IsOver valid add monoids records (record { shard = after; cut = before.cut; batches = before.batches; worked = upto })
+      → IsOver valid add monoids records (record { shard = after; cut = before.cut; batches = before.batches; worked = upto; floor = before.floor })
   over_flushed before after upto from to parcel commute over some less most e f chunks parts keeps cover = record {
     job = over.job;
     length = over.length;
@@ -106,7 +106,7 @@ module _ {M E : Type 0} (valid : M → E → Type 0) (add : M → E → E → E)
 
   -- the next batch is published
   pub over_published : (before : SessionValue E) (after : ShardValue E) (rows : Rows E) → IsOver valid add monoids records before → published_by before < before.batches → AreBatchRows d records rows → InstallKeeps rows before.shard after
-      → KeepsOnly rows before.shard after → cover_of after ≡ cover_of before.shard → IsOver valid add monoids records (record { shard = after; cut = before.cut; batches = before.batches; worked = before.worked })
+      → KeepsOnly rows before.shard after → cover_of after ≡ cover_of before.shard → IsOver valid add monoids records (record { shard = after; cut = before.cut; batches = before.batches; worked = before.worked; floor = before.floor })
   over_published before after rows over below made keeps only cover = record {
     job = over.job;
     length = over.length;

@@ -10,16 +10,21 @@ use Rattle.sb_feed.specs.Keys.{key_order}
 use Rattle.sb_feed.specs.Stands.{StandsFor}
 use Rattle.sb_shard.specs.Shards.{ShardValue, shard_sums, published_to, cover_of}
 
--- what a session keeps: its shard, the cut of the log, the number of the log's batches, and how many chunks it has worked
+-- what a session keeps: its shard, the cut of the log, the number of the log's batches, how many chunks it has worked, and its floor
 pub record SessionValue (E : Type 0) : Type 0 where
   pub shard : ShardValue E
   pub cut : CutValue
   pub batches : ℕ
   pub worked : ℕ
+  pub floor : ℕ
 
 -- the number of published batches
 abbrev pub published_by : {E : Type 0} → SessionValue E → ℕ
 published_by session = published_to session.shard
+
+-- the session with another floor
+abbrev pub with_floor : {E : Type 0} → SessionValue E → ℕ → SessionValue E
+with_floor session floor = record session { floor = floor }
 
 -- the job of a feed's dictionaries and records, of which nothing expires
 abbrev pub job_by : {M E : Type 0} → List M → List (Record E) → CutValue → Job M E

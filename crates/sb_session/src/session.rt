@@ -1,11 +1,12 @@
 //! The session: its events, and what it reads.
-ghost use Rattle.std.specs.Prelude.{◌≡◌, ◌≤◌, ◌<◌, ◌+◌, ◌-◌, ◌*◌, ◌++◌, min, max, map, length, IfOk, OnOk, OnErr};
+ghost use Rattle.std.specs.Prelude.{◌≡◌, ◌≤◌, ◌<◌, ◌+◌, ◌-◌, ◌*◌, ◌++◌, nat_le, min, max, map, length, IfOk, OnOk, OnErr, if◌then◌else◌};
 ghost use Rattle.std.specs.List.{AllByRecursion, range_with_len};
 ghost use Rattle.sb_feed.specs.Cuts.{chunk_count};
 ghost use Rattle.sb_feed.specs.Limits.{most_chunks};
 ghost use Rattle.sb_laws.specs.Sums.{sum_of};
 ghost use Rattle.sb_shard.specs.Asks.{values_of};
-ghost use Rattle.sb_session.specs.Sessions.{job_by, IsOver, published_by, read_fold, AreAllRows};
+ghost use Rattle.sb_shard.specs.Shards.{cover_of};
+ghost use Rattle.sb_session.specs.Sessions.{job_by, IsOver, published_by, read_fold, with_floor, AreAllRows};
 
 use crate::emitting::{batch_count, parts_between};
 use sb_feed::{Cut, Feed, KeyBytes, Parcel, PartList, RowList, Sums};
@@ -32,6 +33,7 @@ pub struct Session<E> {
     cut: Cut,
     batches: u64,
     worked: u64,
+    floor: u64,
 }
 
 impl<E> Model for Session<E> {
@@ -40,7 +42,7 @@ impl<E> Model for Session<E> {
 
     ghost Value = { SessionValue E };
 
-    ghost view = { λ s. record { shard = s.shard; cut = s.cut; batches = s.batches; worked = s.worked } };
+    ghost view = { λ s. record { shard = s.shard; cut = s.cut; batches = s.batches; worked = s.worked; floor = s.floor } };
 
     ghost invariant = { λ s. IsCut s.cut };
 }
@@ -55,13 +57,14 @@ impl<E: Drop> Session<E> {
         requires one { cut.shards ≡ 1 }
         ensures over { IsOver F.M.valid F.M.add (F.monoids feed.now) (F.records feed.now) result }
         ensures cut { result.cut ≡ cut }
-        ensures numbers { (result.worked ≡ 0) × (published_by result ≡ 0) }
+        ensures numbers { (result.worked ≡ 0) × (published_by result ≡ 0) × (result.floor ≡ 0) }
     {
         Session {
             shard: Shard::new(alloc),
             batches: batch_count(feed),
             cut,
             worked: 0,
+            floor: 0,
         }
     }
 
@@ -70,6 +73,34 @@ impl<E: Drop> Session<E> {
         ensures { result ≡ published_by self.now }
     {
         self.shard.published()
+    }
+
+    /// The floor: a batch below it isn't told apart any more.
+    pub fn floor(&self) -> u64
+        ensures { result ≡ self.now.floor }
+    {
+        self.floor
+    }
+
+    /// The chunks that were worked.
+    pub fn cover(&self) -> &Ranges
+        ensures { result.now ≡ cover_of self.now.shard }
+    {
+        self.shard.cover()
+    }
+
+    /// Raises the floor to this one, unless it is there already. False, and nothing changed, exactly where the floor would
+    /// pass the published batches.
+    pub fn expire(&mut self, floor: u64) -> bool
+        ensures raised { result ≡ nat_le floor (published_by self.old) }
+        ensures session { self.new ≡ with_floor self.old (if result then max self.old.floor floor
+            else self.old.floor) }
+    {
+        if self.shard.published() < floor {
+            return false;
+        }
+        self.floor = self.floor.max(floor);
+        true
     }
 
     /// Works the next chunks, at most so many, and gives their numbers.
@@ -85,7 +116,8 @@ impl<E: Drop> Session<E> {
         ensures chunks { IfOk result (λ chunks. chunks
             ≡ range_with_len self.old.worked (self.new.worked - self.old.worked)) }
         ensures others { OnOk result ((self.new.cut ≡ self.old.cut)
-            × (published_by self.new ≡ published_by self.old)) }
+            × (published_by self.new ≡ published_by self.old)
+            × (self.new.floor ≡ self.old.floor)) }
         ensures err { OnErr result (self.new ≡ self.old) }
     {
         let upto = self.cut.chunks().min(self.worked.saturating_add(most));
@@ -108,7 +140,8 @@ impl<E: Drop> Session<E> {
             (F.records feed.now) self.new) }
         ensures worked { OnOk result (self.new.worked ≡ upto) }
         ensures others { OnOk result ((self.new.cut ≡ self.old.cut)
-            × (published_by self.new ≡ published_by self.old)) }
+            × (published_by self.new ≡ published_by self.old)
+            × (self.new.floor ≡ self.old.floor)) }
         ensures err { OnErr result (self.new ≡ self.old) }
     {
         let chunks = chunks_between(alloc, self.worked, upto)?;
@@ -134,7 +167,8 @@ impl<E: Drop> Session<E> {
         ensures over { IsOver F.M.valid F.M.add (F.monoids feed.now) (F.records feed.now) self.new }
         ensures published { OnOk result (published_by self.new
             ≡ max (published_by self.old) (min upto self.old.batches)) }
-        ensures others { (self.new.cut ≡ self.old.cut) × (self.new.worked ≡ self.old.worked) }
+        ensures others { (self.new.cut ≡ self.old.cut) × (self.new.worked ≡ self.old.worked)
+            × (self.new.floor ≡ self.old.floor) }
     {
         let end = upto.min(self.batches);
         for batch in self.published()..end {
@@ -154,7 +188,7 @@ impl<E: Drop> Session<E> {
         ensures over { IsOver F.M.valid F.M.add (F.monoids feed.now) (F.records feed.now) self.new }
         ensures published { OnOk result (published_by self.new ≡ published_by self.old + 1) }
         ensures others { (self.new.cut ≡ self.old.cut) × (self.new.worked ≡ self.old.worked)
-            × (self.new.batches ≡ self.old.batches) }
+            × (self.new.batches ≡ self.old.batches) × (self.new.floor ≡ self.old.floor) }
     {
         let rows = job(alloc, feed, batch, batch + 1)?;
         self.shard.install(rows)?;

@@ -11,4 +11,5 @@ invariant-loop-batch g l = record {
   cut : l.self.cut ≡ l.fn.self.cut;
   worked : l.self.worked ≡ l.fn.self.worked;
   batches : l.self.batches ≡ l.fn.self.batches;
+  floor : l.self.floor ≡ l.fn.self.floor;
 }
