@@ -59,6 +59,18 @@ texts_next (suc n) t ts =
     let no : (suc n == 0) ≡ false = grind (arith, nat_tests) in
     ap (λ b. (if b then [] else codes ",") ++ t ++ further ts) (sym no)
 
+-- one item more of a list is written
+pub item_written : {X : Type 0} (line : X → List ℕ) (at : ℕ) (x : X) (xs : List X) (out with_comma now whole : List ℕ) → drop at xs ≡ x ∷ drop (suc at) xs
+    → out ++ texts_from at (map line (drop at xs)) ≡ whole → with_comma ≡ out ++ (if at == 0 then [] else codes ",") → now ≡ with_comma ++ line x
+    → now ++ texts_from (at + 1) (map line (drop (at + 1) xs)) ≡ whole
+item_written line at x xs out with_comma now whole next written comma_is part =
+    let comma : List ℕ = if at == 0 then [] else codes "," in
+    let rest = texts_from (suc at) (map line (drop (suc at) xs)) in
+    let first : texts_from at (map line (drop at xs)) ≡ (comma ++ line x) ++ rest = ap (λ l. texts_from at (map line l)) next ∙ texts_next at (line x) (map line (drop (suc at) xs)) in
+    let made : now ≡ out ++ (comma ++ line x) = part ∙ (ap (λ l. l ++ line x) comma_is ∙ append_assoc out comma (line x)) in
+    ap (λ n. now ++ texts_from n (map line (drop n xs))) (add-one at)
+    ∙ (ap (λ l. l ++ rest) made ∙ (append_assoc out (comma ++ line x) rest ∙ (ap (λ l. out ++ l) (sym first) ∙ written)))
+
 -- one entry more is written
 pub entry_written : (at : ℕ) (entry : Val × Agg) (es : List (Val × Agg)) (out with_key now text : List ℕ) → drop at es ≡ entry ∷ drop (suc at) es
     → out ++ texts_from at (map entry_line (drop at es)) ++ codes "}" ≡ text → with_key ≡ out ++ (if at == 0 then [] else codes ",") ++ val_text entry.0 ++ codes "="

@@ -6,14 +6,17 @@ use Rattle.sb_gather.specs.EntryLaws.{JoinLaws}
 use Rattle.sb_gather.specs.Maps.{by_key, values_added, maps_added, map_laws, ValueBack}
 use Rattle.sb_gather.specs.Steps.{StepBack, StepsBack, TopStepBack}
 use Rattle.sb_gather.proofs.Undoing.{step_noted}
-use Rattle.sb_kind.specs.Elements.{val_cmp, scored_in, entries_in, IsOf, plus}
+use Rattle.sb_sketch.specs.Undone.{CellsBack, RegistersBack}
+use Rattle.sb_sketch.specs.declared.undone.CellsUndone.{CellsUndone}
+use Rattle.sb_sketch.specs.declared.undone.RegistersUndone.{RegistersUndone}
+use Rattle.sb_kind.specs.Elements.{val_cmp, scored_in, cells_in, registers_in, entries_in, IsOf, plus}
 use Rattle.sb_kind.specs.KindLaws.{keeps, associates, entries-Map}
 use Rattle.sb_kind.specs.Monoids.{Monoid}
 use Rattle.sb_kind.specs.KindView.{monoid_of}
-use Rattle.sb_kind.specs.Undoing.{TakesBack, item_steps, entry_steps, entries_layer}
-use Rattle.sb_kind.specs.declared.agg.Agg.{Agg, out-Agg, Top, Map}
+use Rattle.sb_kind.specs.Undoing.{TakesBack, item_steps, cells_undone, registers_undone, entry_steps, entries_layer}
+use Rattle.sb_kind.specs.declared.agg.Agg.{Agg, out-Agg, Top, Cms, Hll, Map}
 use Rattle.sb_kind.specs.declared.kind.Kind.{Kind, Map as Maps}
-use Rattle.sb_kind.specs.declared.undone.Undone.{Undone, out-Undone, Scored, Map as MapSteps}
+use Rattle.sb_kind.specs.declared.undone.Undone.{Undone, out-Undone, Scored, Cells, Registers, Map as MapSteps}
 use Rattle.sb_kind.specs.declared.undone.Undone.TheOpen as layer
 use Rattle.sb_kind.specs.declared.undone.Undone.TheVariants.{rolls-Map}
 use Rattle.sb_kind.specs.declared.undone.Undone.TheViews.{out-roll-Undone}
@@ -53,6 +56,34 @@ pub top_back : (steps noted : List (ℕ × Option (ℤ × List ℕ))) (items bef
 top_back steps noted items before a s e h =
     let one = subst (λ t. StepsBack TopStepBack t items before) (sym (item_steps-Scored steps ∙ s)) h in
     subst (λ l. StepsBack TopStepBack (item_steps (Scored steps)) l before) (sym (ap scored_in e ∙ scored_in-Top items)) one
+
+cells_in-Cms : (cells : List ℕ) → cells_in (Cms cells) ≡ cells
+unfolding out-Agg denote.Hole.Carrier.out
+cells_in-Cms cells = refl
+
+cells_undone-Cells : (undone : CellsUndone) → cells_undone (Cells undone) ≡ undone
+unfolding out-Undone denote.Hole.Carrier.out
+cells_undone-Cells undone = refl
+
+-- what takes cells back takes their sketch back
+pub cms_back : (undone : CellsUndone) (cells before : List ℕ) (a : Agg) → a ≡ Cms cells → CellsBack undone cells before → CellsBack (cells_undone (Cells undone)) (cells_in a) before
+cms_back undone cells before a e h =
+    let one = subst (λ u. CellsBack u cells before) (sym (cells_undone-Cells undone)) h in
+    subst (λ l. CellsBack (cells_undone (Cells undone)) l before) (sym (ap cells_in e ∙ cells_in-Cms cells)) one
+
+registers_in-Hll : (registers : List ℕ) → registers_in (Hll registers) ≡ registers
+unfolding out-Agg denote.Hole.Carrier.out
+registers_in-Hll registers = refl
+
+registers_undone-Registers : (undone : RegistersUndone) → registers_undone (Registers undone) ≡ undone
+unfolding out-Undone denote.Hole.Carrier.out
+registers_undone-Registers undone = refl
+
+pub hll_back : (undone : RegistersUndone) (registers before : List ℕ) (a : Agg) → a ≡ Hll registers → RegistersBack undone registers before
+    → RegistersBack (registers_undone (Registers undone)) (registers_in a) before
+hll_back undone registers before a e h =
+    let one = subst (λ u. RegistersBack u registers before) (sym (registers_undone-Registers undone)) h in
+    subst (λ l. RegistersBack (registers_undone (Registers undone)) l before) (sym (ap registers_in e ∙ registers_in-Hll registers)) one
 
 entry_steps-Map : (steps : List (ℕ × Option Undone)) → entry_steps (MapSteps steps) ≡ steps
 entry_steps-Map steps = ap entries_layer (ap out-Undone (sym (rolls-Map steps)) ∙ out-roll-Undone (layer.Map steps))

@@ -2,9 +2,14 @@
 use Rattle.std.specs.Prelude.{◌≡◌, ℕ, ℤ, pos, List, [], take, Option}
 use Rattle.sb_gather.specs.Maps.{ValueBack}
 use Rattle.sb_gather.specs.Steps.{StepBack, StepsBack, TopStepBack}
-use Rattle.sb_kind.specs.Elements.{values_in, scored_in, left_in, right_in, entries_in}
+use Rattle.sb_sketch.specs.Undone.{CellsBack, RegistersBack}
+use Rattle.sb_sketch.specs.declared.undone.CellsUndone.{CellsUndone}
+use Rattle.sb_sketch.specs.declared.undone.CellsUndone.TheVariants.{Counted}
+use Rattle.sb_sketch.specs.declared.undone.RegistersUndone.{RegistersUndone}
+use Rattle.sb_sketch.specs.declared.undone.RegistersUndone.TheVariants.{Nothing as NotRaised}
+use Rattle.sb_kind.specs.Elements.{values_in, scored_in, cells_in, registers_in, left_in, right_in, entries_in}
 use Rattle.sb_kind.specs.Monoids.{Monoid, sums, least, greatest, firsts, lasts, concats, sets, tops, sketches, registers, pairs, maps}
-use Rattle.sb_kind.specs.declared.agg.Agg.{Agg, Sum, Concat, Set, Top, Pair, Map}
+use Rattle.sb_kind.specs.declared.agg.Agg.{Agg, Sum, Concat, Set, Top, Cms, Hll, Pair, Map}
 use Rattle.sb_types.specs.declared.values.Val.{Val}
 use Rattle.sb_kind.specs.declared.undone.Undone.{Undone, out-Undone, Nothing}
 use Rattle.sb_kind.specs.declared.undone.Undone.TheOpen as layer
@@ -42,6 +47,22 @@ items_layer other = []
 abbrev pub item_steps : Undone → List (ℕ × Option (ℤ × List ℕ))
 item_steps u = items_layer (out-Undone u)
 
+abbrev cells_undone_layer : Undone-F Undone → CellsUndone
+cells_undone_layer (layer.Cells undone) = undone
+cells_undone_layer other = Counted []
+
+-- what takes a plus of count-min sketches back
+abbrev pub cells_undone : Undone → CellsUndone
+cells_undone u = cells_undone_layer (out-Undone u)
+
+abbrev registers_undone_layer : Undone-F Undone → RegistersUndone
+registers_undone_layer (layer.Registers undone) = undone
+registers_undone_layer other = NotRaised
+
+-- what takes a plus of HyperLogLogs back
+abbrev pub registers_undone : Undone → RegistersUndone
+registers_undone u = registers_undone_layer (out-Undone u)
+
 abbrev first_layer : Undone-F Undone → Undone
 first_layer (layer.Pair v w) = v
 first_layer other = Nothing
@@ -75,8 +96,8 @@ TakesBack lasts u later earlier = kept_in u ≡ earlier
 TakesBack concats u later earlier = Concat (take (length_in u) (values_in later)) ≡ earlier
 TakesBack sets u later earlier = (earlier ≡ Set (values_in earlier)) × StepsBack (StepBack (λ _ y x. y ≡ x)) (key_steps u) (values_in later) (values_in earlier)
 TakesBack (tops k) u later earlier = (earlier ≡ Top (scored_in earlier)) × StepsBack TopStepBack (item_steps u) (scored_in later) (scored_in earlier)
-TakesBack (sketches d w) u later earlier = kept_in u ≡ earlier
-TakesBack (registers b) u later earlier = kept_in u ≡ earlier
+TakesBack (sketches d w) u later earlier = (earlier ≡ Cms (cells_in earlier)) × CellsBack (cells_undone u) (cells_in later) (cells_in earlier)
+TakesBack (registers b) u later earlier = (earlier ≡ Hll (registers_in earlier)) × RegistersBack (registers_undone u) (registers_in later) (registers_in earlier)
 TakesBack (pairs m n) u later earlier =
     (later ≡ Pair (left_in later) (right_in later)) × (earlier ≡ Pair (left_in earlier) (right_in earlier))
     × TakesBack m (first_in u) (left_in later) (left_in earlier) × TakesBack n (second_in u) (right_in later) (right_in earlier)

@@ -85,26 +85,27 @@ fn add_cms(cms: &CmsM, alloc: Global, a: &mut Agg, b: Agg) -> Result<Undone, NoM
     requires left { IsOf (sketches cms.now.rows cms.now.width) a.old }
     requires right { IsOf (sketches cms.now.rows cms.now.width) b }
     ensures ok { OnOk result (a.new ≡ plus (sketches cms.now.rows cms.now.width) a.old b) }
-    ensures undone { IfOk result (λ undone. kept_in undone ≡ a.old) }
+    ensures undone { IfOk result
+        (λ undone. TakesBack (sketches cms.now.rows cms.now.width) undone a.new a.old) }
     ensures err { OnErr result (a.new ≡ a.old) }
 {
     let mut cells = into_cells(alloc, take(a));
     let done = cms.plus_recorded(alloc, &mut cells, into_cells(alloc, b));
     put(a, Agg::Cms(cells));
-    Ok(Undone::Kept(Agg::Cms(done?)))
+    Ok(Undone::Cells(done?))
 }
 
 fn add_hll(hll: &HllM, alloc: Global, a: &mut Agg, b: Agg) -> Result<Undone, NoMemory>
     requires left { IsOf (registers hll.now) a.old }
     requires right { IsOf (registers hll.now) b }
     ensures ok { OnOk result (a.new ≡ plus (registers hll.now) a.old b) }
-    ensures undone { IfOk result (λ undone. kept_in undone ≡ a.old) }
+    ensures undone { IfOk result (λ undone. TakesBack (registers hll.now) undone a.new a.old) }
     ensures err { OnErr result (a.new ≡ a.old) }
 {
     let mut all = into_registers(alloc, take(a));
     let done = hll.plus_recorded(alloc, &mut all, into_registers(alloc, b));
     put(a, Agg::Hll(all));
-    Ok(Undone::Kept(Agg::Hll(done?)))
+    Ok(Undone::Registers(done?))
 }
 
 /// Adds `b` on the right of `a`, in place, and keeps what takes it back. A refusal leaves `a` as it was.

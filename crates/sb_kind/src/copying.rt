@@ -21,8 +21,8 @@ pub fn copy(alloc: Global, a: &Agg) -> Result<Agg, NoMemory>
         Agg::Concat(values) => Ok(Agg::Concat(copy_values(alloc, values)?)),
         Agg::Set(values) => Ok(Agg::Set(copy_values(alloc, values)?)),
         Agg::Top(items) => Ok(Agg::Top(copy_items(alloc, items)?)),
-        Agg::Cms(cells) => Ok(Agg::Cms(copy_numbers(alloc, cells)?)),
-        Agg::Hll(registers) => Ok(Agg::Hll(copy_numbers(alloc, registers)?)),
+        Agg::Cms(cells) => Ok(Agg::Cms(cells.copy(alloc)?)),
+        Agg::Hll(registers) => Ok(Agg::Hll(registers.copy(alloc)?)),
         Agg::Pair(left, right) => {
             let left = copy(alloc, left.get())?;
             let right = copy(alloc, right.get())?;
@@ -58,10 +58,4 @@ fn copy_items(alloc: Global, items: &Tops) -> Result<Tops, NoMemory>
         copied.push((item.0, item.1.copy(alloc)?))?;
     }
     Ok(Items::from_vec(copied))
-}
-
-fn copy_numbers<T: Copy>(alloc: Global, numbers: &Items<T>) -> Result<Items<T>, NoMemory>
-    ensures { IfOk result (λ copied. copied ≡ numbers.now) }
-{
-    Ok(Items::from_vec(Vec::from_slice(alloc, numbers.as_slice())?))
 }

@@ -45,7 +45,7 @@ pub fn into_cells(alloc: Global, a: Agg) -> Cells
 {
     match a {
         Agg::Cms(cells) => cells,
-        _ => Items::new(alloc),
+        _ => Cells::from_vec(Vec::new(alloc)),
     }
 }
 
@@ -55,7 +55,7 @@ pub fn into_registers(alloc: Global, a: Agg) -> Registers
 {
     match a {
         Agg::Hll(registers) => registers,
-        _ => Items::new(alloc),
+        _ => Registers::from_vec(Vec::new(alloc)),
     }
 }
 

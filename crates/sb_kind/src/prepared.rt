@@ -78,12 +78,12 @@ fn one_count(cms: &CmsM, alloc: Global, v: Val) -> Result<Cells, NoMemory>
     cms.one(alloc, item.as_bytes())
 }
 
-fn one_position(hll: &HllM, alloc: Global, v: Val) -> Result<Registers, NoMemory>
-    ensures registers { IfOk result (λ all. all ≡ registers_of hll.now (text_in v)) }
-    ensures valid { IfOk result (AreRegisters hll.now) }
+fn one_position(hll: &HllM, alloc: Global, v: Val) -> Registers
+    ensures registers { result ≡ registers_of hll.now (text_in v) }
+    ensures valid { AreRegisters hll.now result }
 {
     let item = into_text(alloc, v);
-    hll.one(alloc, item.as_bytes())
+    hll.one(item.as_bytes())
 }
 
 fn pair_of(alloc: Global, left: Agg, right: Agg) -> Result<Agg, NoMemory>
@@ -116,7 +116,7 @@ pub fn prepare(alloc: Global, kind: &Kind, v: Val) -> Result<Agg, NoMemory>
         Kind::Set => Ok(Agg::Set(one_value(alloc, v)?)),
         Kind::Top(top) => Ok(Agg::Top(one_item(top, alloc, v)?)),
         Kind::Cms(cms) => Ok(Agg::Cms(one_count(cms, alloc, v)?)),
-        Kind::Hll(hll) => Ok(Agg::Hll(one_position(hll, alloc, v)?)),
+        Kind::Hll(hll) => Ok(Agg::Hll(one_position(hll, alloc, v))),
         Kind::Pair(left_kind, right_kind) => {
             let (left, right) = into_halves(v);
             let left = prepare(alloc, left_kind.get(), left)?;

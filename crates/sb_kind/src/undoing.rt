@@ -1,7 +1,7 @@
 //! Additions taken back.
 ghost use Rattle.std.specs.Prelude.{◌≡◌, List};
 ghost use Rattle.sb_kind.specs.KindView.{monoid_of};
-ghost use Rattle.sb_kind.specs.Monoids.{concats, sets, tops};
+ghost use Rattle.sb_kind.specs.Monoids.{concats, sets, tops, sketches, registers};
 ghost use Rattle.sb_kind.specs.Undoing.{TakesBack, StepBackBy, StepsBackBy};
 ghost use Rattle.sb_kind.specs.declared.agg.Agg.{Agg};
 ghost use Rattle.sb_types.specs.declared.values.Val.{Val};
@@ -11,13 +11,16 @@ use crate::keyed::ValueSets;
 use crate::kind::Kind;
 use crate::many::Many;
 use crate::parts::{
-    into_entries, into_scored, into_values, put, put_parts, take, take_left, take_right,
+    into_cells, into_entries, into_registers, into_scored, into_values, put, put_parts, take,
+    take_left, take_right,
 };
 use crate::undone::{
-    Undone, into_both, into_entry_steps, into_item_steps, into_kept, into_key_steps, length_of,
+    Undone, into_both, into_cells_undone, into_entry_steps, into_item_steps, into_kept,
+    into_key_steps, into_registers_undone, length_of,
 };
 use sb_gather::{TopM, take_items_back};
 use sb_laws::Undo;
+use sb_sketch::{CmsM, HllM};
 use sb_text::Text;
 use sb_types::Val;
 use std::alloc::Global;
@@ -46,6 +49,25 @@ fn undo_top(top: &TopM<Text>, alloc: Global, a: &mut Agg, undone: Undone)
     put(a, Agg::Top(items));
 }
 
+fn undo_cms(cms: &CmsM, alloc: Global, a: &mut Agg, undone: Undone)
+    ensures { (earlier : Agg)
+        → TakesBack (sketches cms.now.rows cms.now.width) undone a.old earlier
+        → a.new ≡ earlier }
+{
+    let mut cells = into_cells(alloc, take(a));
+    cms.undo(&mut cells, into_cells_undone(alloc, undone));
+    put(a, Agg::Cms(cells));
+}
+
+fn undo_hll(hll: &HllM, alloc: Global, a: &mut Agg, undone: Undone)
+    ensures { (earlier : Agg) → TakesBack (registers hll.now) undone a.old earlier
+        → a.new ≡ earlier }
+{
+    let mut all = into_registers(alloc, take(a));
+    hll.undo(&mut all, into_registers_undone(undone));
+    put(a, Agg::Hll(all));
+}
+
 /// Takes an addition back. No memory is taken.
 #[cycle(undo)]
 pub fn undo(kind: &Kind, alloc: Global, a: &mut Agg, undone: Undone)
@@ -57,6 +79,8 @@ pub fn undo(kind: &Kind, alloc: Global, a: &mut Agg, undone: Undone)
         Kind::Concat => undo_concat(alloc, a, undone),
         Kind::Set => undo_set(alloc, a, undone),
         Kind::Top(top) => undo_top(top, alloc, a, undone),
+        Kind::Cms(cms) => undo_cms(cms, alloc, a, undone),
+        Kind::Hll(hll) => undo_hll(hll, alloc, a, undone),
         Kind::Pair(left_kind, right_kind) => {
             let (first, second) = into_both(undone);
             let mut left = take_left(a);
@@ -75,9 +99,7 @@ pub fn undo(kind: &Kind, alloc: Global, a: &mut Agg, undone: Undone)
             );
             put(a, Agg::Map(Many::from_vec(list)));
         }
-        Kind::Sum | Kind::Min | Kind::Max | Kind::Last | Kind::Cms(_) | Kind::Hll(_) => {
-            put(a, into_kept(undone));
-        }
+        Kind::Sum | Kind::Min | Kind::Max | Kind::Last => put(a, into_kept(undone)),
     }
 }
 

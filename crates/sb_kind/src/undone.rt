@@ -1,11 +1,12 @@
 //! What takes an addition back.
 ghost use Rattle.std.specs.Prelude.{◌≡◌};
-ghost use Rattle.sb_kind.specs.Undoing.{kept_in, length_in, key_steps, item_steps, first_in, second_in, entry_steps};
+ghost use Rattle.sb_kind.specs.Undoing.{kept_in, length_in, key_steps, item_steps, cells_undone, registers_undone, first_in, second_in, entry_steps};
 
 use crate::agg::Agg;
 use crate::boxed::Boxed;
 use crate::many::Many;
 use sb_laws::Items;
+use sb_sketch::{CellsUndone, RegistersUndone};
 use sb_text::Text;
 use std::alloc::Global;
 
@@ -17,9 +18,11 @@ pub enum Undone {
     Kept(Agg),
     /// The earlier number of values.
     Length(usize),
-    /// The steps of a set, a top or a map: the place of each, and what undoes it there.
+    /// The steps of a set, a top or a map: the place of each, and what undoes it there. A sketch has its own.
     Keys(Items<(usize, Option<()>)>),
     Scored(Items<(usize, Option<(i64, Text)>)>),
+    Cells(CellsUndone),
+    Registers(RegistersUndone),
     Map(Many<(usize, Option<Undone>)>),
     Pair(Boxed<Undone>, Boxed<Undone>),
 }
@@ -61,6 +64,26 @@ pub fn into_item_steps(alloc: Global, u: Undone) -> Vec<(usize, Option<(i64, Tex
     match u {
         Undone::Scored(steps) => steps.into_vec(),
         _ => Vec::new(alloc),
+    }
+}
+
+/// What takes a plus of count-min sketches back.
+pub fn into_cells_undone(alloc: Global, u: Undone) -> CellsUndone
+    ensures { result ≡ cells_undone u }
+{
+    match u {
+        Undone::Cells(undone) => undone,
+        _ => CellsUndone::Counted(Items::new(alloc)),
+    }
+}
+
+/// What takes a plus of HyperLogLogs back.
+pub fn into_registers_undone(u: Undone) -> RegistersUndone
+    ensures { result ≡ registers_undone u }
+{
+    match u {
+        Undone::Registers(undone) => undone,
+        _ => RegistersUndone::Nothing,
     }
 }
 

@@ -7,6 +7,7 @@ ghost use Rattle.sb_kind.specs.ElementText.{joined, val_text, item_text, element
 use crate::agg::Agg;
 use crate::kind::Kind;
 use sb_laws::NoMemory;
+use sb_sketch::{Cells, Registers};
 use sb_text::{Text, escape, write_i64, write_u64};
 use sb_types::Val;
 use std::alloc::Global;
@@ -37,8 +38,8 @@ fn push_element(alloc: Global, a: &Agg, out: &mut Vec<u8>) -> Result<(), NoMemor
         Agg::Concat(values) => push_list(alloc, values.as_slice(), out),
         Agg::Set(values) => push_set(alloc, values.as_slice(), out),
         Agg::Top(items) => push_items(alloc, items.as_slice(), out),
-        Agg::Cms(cells) => push_cells(alloc, cells.as_slice(), out),
-        Agg::Hll(registers) => push_registers(alloc, registers.as_slice(), out),
+        Agg::Cms(cells) => push_cells(alloc, cells, out),
+        Agg::Hll(registers) => push_registers(alloc, registers, out),
         Agg::Pair(left, right) => {
             out.push(b'(')?;
             push_element(alloc, left.get(), out)?;
@@ -140,24 +141,36 @@ fn push_items(alloc: Global, items: &[(i64, Text)], out: &mut Vec<u8>) -> Result
     Ok(())
 }
 
-fn push_cells(alloc: Global, cells: &[u64], out: &mut Vec<u8>) -> Result<(), NoMemory>
+fn push_cells(alloc: Global, cells: &Cells, out: &mut Vec<u8>) -> Result<(), NoMemory>
     ensures ok { OnOk result (out.new.items
         ≡ out.old.items ++ (codes "[" ++ joined (map decimal cells.now) ++ codes "]")) }
     ensures front { take (length out.old.items) out.new.items ≡ out.old.items }
 {
     out.push(b'[')?;
-    for (at, cell) in cells.iter().enumerate() {
+    for at in 0..cells.len() {
         out.extend_from_slice(comma_before(at))?;
-        write_u64(alloc, out, *cell)?;
+        write_u64(alloc, out, cells.get(at))?;
     }
     out.push(b']')?;
     Ok(())
 }
 
-fn push_registers(alloc: Global, registers: &[u8], out: &mut Vec<u8>) -> Result<(), NoMemory>
+// Only for the short form is a full list made.
+fn push_registers(alloc: Global, registers: &Registers, out: &mut Vec<u8>) -> Result<(), NoMemory>
     ensures ok { OnOk result (out.new.items ≡ out.old.items ++ encode_lower registers.now) }
     ensures front { take (length out.old.items) out.new.items ≡ out.old.items }
 {
-    let text = hex::encode(alloc, registers)?;
+    if let Some(all) = registers.as_slice() {
+        return push_digits(alloc, all, out);
+    }
+    let all = registers.to_vec(alloc)?;
+    push_digits(alloc, all.as_slice(), out)
+}
+
+fn push_digits(alloc: Global, bytes: &[u8], out: &mut Vec<u8>) -> Result<(), NoMemory>
+    ensures ok { OnOk result (out.new.items ≡ out.old.items ++ encode_lower bytes.now) }
+    ensures front { take (length out.old.items) out.new.items ≡ out.old.items }
+{
+    let text = hex::encode(alloc, bytes)?;
     out.extend_from_slice(text.as_bytes())
 }

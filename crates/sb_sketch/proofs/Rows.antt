@@ -1,7 +1,7 @@
 -- The rows of a sketch of one item, row after row.
 use Rattle.std.proofs.Common.{◌≡◌, ℕ, zero, suc, ◌+◌, ◌-◌, ◌*◌, ◌^◌, ◌<◌, ◌≤◌, List, [], ◌∷◌, ◌++◌, length, Some, refl, sym, ap, ◌∙◌, arith, append_assoc, append-nil, add-one}
 use native.Mathlib.Nat.{suc-mul}
-use Rattle.std.specs.Prelude.{slice_get, slice_set}
+use Rattle.std.specs.Prelude.{slice_get, slice_set, slice_index_or}
 use Rattle.std.specs.List.{AllByRecursion, flat_map, range_with_len}
 use Rattle.std.proofs.lemmas.Grind.{flat_map-append}
 use Rattle.std.proofs.lemmas.List.{length-set, length-replicate, length-append, set-append_left, set-append_right, replicate-append-replicate}
@@ -10,7 +10,8 @@ use Rattle.std.proofs.lemmas.List.FromFn.{map-range_with_len_more}
 use Rattle.sb_sketch.specs.Cells.{wrapping_sum, counts_added, zeros, one_cell, AreCells}
 use Rattle.sb_sketch.specs.CellLaws.{sums_commute, cells_commute, zero_is_count, zero_and_sum, zeros_are_cells, onto_zeros}
 use Rattle.sb_sketch.specs.Cms.{Shape, IsCount, AreCounts, cell_of, counts_of}
-use Rattle.sb_sketch.proofs.Joining.{set_later}
+use Rattle.sb_sketch.specs.Places.{counted_up}
+use Rattle.sb_sketch.proofs.Joining.{set_later, same_some, there}
 
 get_later : (xs ys : List ℕ) (i n : ℕ) → length xs ≡ n → slice_get (xs ++ ys) (n + i) ≡ slice_get ys i
 get_later [] ys i n e = ap (slice_get ys) (omega (arith, e))
@@ -23,6 +24,9 @@ pub get_zero : (n i : ℕ) → i < n → slice_get (zeros n) i ≡ Some 0
 get_zero zero i h = absurd (omega (arith, h))
 get_zero (suc n) zero h = refl
 get_zero (suc n) (suc i) h = get_zero n i (omega (arith, h))
+
+pub zeros_length : (n : ℕ) → length (zeros n) ≡ n
+zeros_length n = length-replicate n 0
 
 set_zero : (n w at value : ℕ) → at < w → w ≤ n → slice_set (zeros n) at value ≡ one_cell w at value ++ zeros (n - w)
 set_zero n w at value p q =
@@ -59,6 +63,9 @@ module _ (w : ℕ) (cell : ℕ → ℕ) where
   -- the first r of all rows, and only zeros after them
   abbrev pub counted : ℕ → ℕ → List ℕ
   counted all r = rows_to r ++ zeros (all - r * w)
+
+  pub counted_count : (all r : ℕ) → r * w ≤ all → length (counted all r) ≡ all
+  counted_count all r h = length-append (rows_to r) (zeros (all - r * w)) ∙ omega (arith, rows_count r, zeros_length (all - r * w), h)
 
   pub counted_zero : (all r : ℕ) → cell r < w → r * w + w ≤ all → slice_get (counted all r) (r * w + cell r) ≡ Some 0
   counted_zero all r p q = get_later (rows_to r) (zeros (all - r * w)) (cell r) (r * w) (rows_count r) ∙ get_zero (all - r * w) (cell r) (omega (arith, p, q))
@@ -98,6 +105,15 @@ next_row w cell old now all r at v is place e p q =
   where
     counted_once : (x : ℕ) → wrapping_sum (wrapping_sum x 0) 1 ≡ wrapping_sum x 1
     counted_once x = omega arith
+
+-- the place of one row more is counted
+pub one_row_more : (w : ℕ) (cell : ℕ → ℕ) (all r at : ℕ) → at ≡ r * w + cell r → cell r < w → r * w + w ≤ all → counted_up (counted w cell all r) at ≡ counted w cell all (r + 1)
+one_row_more w cell all r at place p q =
+    let long : length (counted w cell all r) ≡ all = counted_count w cell all r (omega (arith, q)) in
+    let zero_there : slice_index_or (counted w cell all r) (r * w + cell r) 0 ≡ 0 =
+    same_some _ 0 (sym (there (counted w cell all r) (r * w + cell r) (omega (arith, long, p, q))) ∙ counted_zero w cell all r p q) in
+    let one : wrapping_sum (slice_index_or (counted w cell all r) (r * w + cell r) 0) 1 ≡ 1 = ap (λ v. wrapping_sum v 1) zero_there in
+    ap (counted_up (counted w cell all r)) place ∙ (ap (slice_set (counted w cell all r) (r * w + cell r)) one ∙ counted_more w cell all r p q)
 
 -- before the first row nothing is counted
 pub no_row : (w : ℕ) (cell : ℕ → ℕ) (old : List ℕ) (all : ℕ) → AreCells all IsCount old → old ≡ counts_added old (counted w cell all 0)

@@ -4,3 +4,6 @@ pub mod CellLaws
 pub mod Hash
 pub mod Cms
 pub mod Hll
+pub mod Places
+pub mod Forms
+pub mod Undone

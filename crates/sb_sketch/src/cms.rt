@@ -1,17 +1,17 @@
 //! Count-min sketches (Cormode and Muthukrishnan, Journal of Algorithms 55(1), 2005).
-ghost use Rattle.std.specs.Prelude.{◌≡◌, ◌<◌, ◌≤◌, ◌↔◌, ◌+◌, ◌*◌, Ok, length, IsOk, IsSome, IfSome, IfOk};
+ghost use Rattle.std.specs.Prelude.{◌≡◌, ◌<◌, ◌≤◌, ◌↔◌, ◌+◌, ◌*◌, IsSome, IfSome, IfOk, OnOk, OnErr};
 ghost use Rattle.sb_sketch.specs.Cells.{counts_added, zeros};
 ghost use Rattle.sb_sketch.specs.Cms.{Shape, AreCounts, cell_of, counts_of};
 ghost use Rattle.sb_sketch.specs.Limits.{most_rows, most_cells};
+ghost use Rattle.sb_sketch.specs.Places.{counted_at};
 
 use crate::cells::cell_at;
+use crate::counts::Cells;
 use crate::hash::word_in_row;
-use sb_laws::{Commuting, Items, Monoid, NoMemory, Semigroup, Undo};
+use crate::undone::CellsUndone;
+use sb_laws::{Commuting, Monoid, NoMemory, Semigroup, Undo};
 use std::alloc::Global;
 use std::marker::Model;
-
-/// The cells of a count-min sketch, row after row.
-pub type Cells = Items<u64>;
 
 /// The most cells of a sketch, and the most rows.
 pub const MOST_CELLS: u32 = 4096;
@@ -31,7 +31,7 @@ impl Model for CmsM {
 
     ghost view = { λ m. record { rows = m.rows; width = m.width } };
 
-    ghost invariant = { λ m. 0 < m.width };
+    ghost invariant = { λ m. (0 < m.width) × (m.rows * m.width ≤ most_cells) };
 
     ghost inverse = { λ shape. record { rows = shape.rows; width = shape.width } };
 }
@@ -54,7 +54,8 @@ impl CmsM {
 
     /// The number of cells, of all rows.
     pub fn cells(&self) -> usize
-        ensures { result ≡ self.now.rows * self.now.width }
+        ensures count { result ≡ self.now.rows * self.now.width }
+        ensures within { result ≤ most_cells }
     {
         usize::from(self.rows) * usize::from(self.width)
     }
@@ -64,7 +65,8 @@ impl CmsM {
     // The place of the item's cell of a row.
     fn place_of(&self, row: u8, item: &[u8]) -> usize
         requires { row < self.now.rows }
-        ensures { result ≡ row * self.now.width + cell_of self.now.width row item.now }
+        ensures place { result ≡ row * self.now.width + cell_of self.now.width row item.now }
+        ensures within { result < most_cells }
     {
         let cell = word_in_row(row, item) % u64::from(self.width);
         usize::from(row) * usize::from(self.width) + cell as usize
@@ -84,36 +86,40 @@ impl CmsM {
         }
     }
 
-    /// Counts one item in place: `plus` of what `one` gives, without making it.
-    pub fn add_item(&self, cells: &mut Cells, item: &[u8])
+    /// Counts one item: `plus` of what `one` gives, without making it. Memory is taken only for a short form, which becomes a
+    /// full list. A refusal leaves the cells as they were.
+    pub fn add_item(&self, alloc: Global, cells: &mut Cells, item: &[u8]) -> Result<(), NoMemory>
         requires { AreCounts self.now cells.old }
-        ensures counted { cells.new ≡ counts_added cells.old (counts_of self.now item.now) }
+        ensures counted { OnOk result (cells.new
+            ≡ counts_added cells.old (counts_of self.now item.now)) }
         ensures valid { AreCounts self.now cells.new }
+        ensures err { OnErr result (cells.new ≡ cells.old) }
     {
-        let mut counts = cells.take();
+        let mut counts = cells.take_full(alloc)?;
         self.count_item(&mut counts, item);
-        *cells = Items::from_vec(counts);
+        *cells = Cells::from_vec(counts);
+        Ok(())
     }
 
-    /// The sketch of one item.
+    /// The sketch of one item, in the short form: a place for each row, and no full list.
     pub fn one(&self, alloc: Global, item: &[u8]) -> Result<Cells, NoMemory>
         ensures sketch { IfOk result (λ cells. cells ≡ counts_of self.now item.now) }
         ensures valid { IfOk result (AreCounts self.now) }
     {
-        let mut cells = self.zero(alloc)?;
-        self.add_item(&mut cells, item);
-        Ok(cells)
+        let places = self.places_of(alloc, item)?;
+        Ok(Cells::at_places(self.cells() as u16, places))
     }
-}
 
-// Adds each count of the left to that of the right, in the room of the right.
-fn add_left(left: &[u64], right: &mut Vec<u64>)
-    requires { length right.old.items ≡ length left.now }
-    ensures { right.new.items ≡ counts_added left.now right.old.items }
-{
-    for (at, count) in left.iter().enumerate() {
-        let sum = count.wrapping_add(cell_at(right.as_slice(), at));
-        right[at] = sum;
+    // The places of the item's cells, row after row.
+    fn places_of(&self, alloc: Global, item: &[u8]) -> Result<Vec<u16>, NoMemory>
+        ensures { IfOk result (λ places. counted_at (zeros (self.now.rows * self.now.width))
+            places.items ≡ counts_of self.now item.now) }
+    {
+        let mut places = Vec::with_capacity(alloc, usize::from(self.rows))?;
+        for row in 0..self.rows {
+            places.push(self.place_of(row, item) as u16)?;
+        }
+        Ok(places)
     }
 }
 
@@ -132,18 +138,19 @@ impl Semigroup for CmsM {
 
     ghost associates = { λ _ a b c p q r. cells_associate wrapping_sum sums_associate a b c };
 
+    // Only where both are short is memory taken.
     fn plus(&self, alloc: Global, a: &mut Cells, b: Cells) -> Result<(), NoMemory>
         requires left { AreCounts self.now a.old }
         requires right { AreCounts self.now b }
-        ensures sum { a.new ≡ counts_added a.old b }
-        ensures done { IsOk result }
+        ensures sum { OnOk result (a.new ≡ counts_added a.old b) }
+        ensures err { OnErr result (a.new ≡ a.old) }
     {
-        let _ = self.plus_recorded(alloc, a, b)?;
+        let _ = a.add(alloc, b)?;
         Ok(())
     }
 
     fn copy(&self, alloc: Global, a: &Cells) -> Result<Cells, NoMemory> {
-        Ok(Items::from_vec(Vec::from_slice(alloc, a.as_slice())?))
+        a.copy(alloc)
     }
 }
 
@@ -163,11 +170,11 @@ impl Monoid for CmsM {
 
     fn zero(&self, alloc: Global) -> Result<Cells, NoMemory> {
         let count = usize::from(self.rows) * usize::from(self.width);
-        Ok(Items::from_vec(Vec::from_elem(alloc, 0, count)?))
+        Ok(Cells::from_vec(Vec::from_elem(alloc, 0, count)?))
     }
 
     fn is_zero(&self, a: &Cells) -> bool {
-        a.as_slice().iter().all(|&count| count == 0)
+        a.are_zeros()
     }
 }
 
@@ -179,23 +186,23 @@ impl Commuting for CmsM {
 }
 
 impl Undo for CmsM {
-    type Undone = Cells;
+    ghost use Rattle.sb_sketch.specs.Undone.{CellsBack};
 
-    ghost takes_back = { λ _ kept _ earlier. kept ≡ earlier };
+    type Undone = CellsUndone;
 
-    // The sums are made in the room of the right, so that the left is what takes the plus back.
-    fn plus_recorded(&self, _alloc: Global, a: &mut Cells, b: Cells) -> Result<Cells, NoMemory>
+    ghost takes_back = { λ _ undone later earlier. CellsBack undone later earlier };
+
+    fn plus_recorded(&self, alloc: Global, a: &mut Cells, b: Cells) -> Result<CellsUndone, NoMemory>
         requires left { AreCounts self.now a.old }
         requires right { AreCounts self.now b }
-        ensures sum { a.new ≡ counts_added a.old b }
-        ensures kept { result ≡ Ok a.old }
+        ensures sum { OnOk result (a.new ≡ counts_added a.old b) }
+        ensures undo { IfOk result (λ undone. CellsBack undone a.new a.old) }
+        ensures err { OnErr result (a.new ≡ a.old) }
     {
-        let mut sums = b.into_vec();
-        add_left(a.as_slice(), &mut sums);
-        Ok(std::mem::replace(a, Items::from_vec(sums)))
+        a.add(alloc, b)
     }
 
-    fn undo(&self, a: &mut Cells, kept: Cells) {
-        *a = kept;
+    fn undo(&self, a: &mut Cells, undone: CellsUndone) {
+        a.take_back(undone)
     }
 }

@@ -1,5 +1,5 @@
 //! HyperLogLog (Flajolet, Fusy, Gandouet and Meunier, AofA 2007).
-ghost use Rattle.std.specs.Prelude.{◌≡◌, ◌<◌, ◌≤◌, ◌↔◌, ◌+◌, ◌-◌, ◌%◌, ◌^◌, ℕ, Ok, length, max, IsOk, IsSome, IfSome, IfOk};
+ghost use Rattle.std.specs.Prelude.{◌≡◌, ◌≤◌, ◌↔◌, ◌+◌, ◌-◌, ◌%◌, ◌^◌, ℕ, max, IsSome, IfSome, IfOk, OnOk, OnErr};
 ghost use lib.Count.{count_leading_zeros};
 ghost use Rattle.sb_sketch.specs.Cells.{greatest_of_both, zeros};
 ghost use Rattle.sb_sketch.specs.Hll.{AreRegisters, register_of, position_of, registers_of};
@@ -7,12 +7,11 @@ ghost use Rattle.sb_sketch.specs.Limits.{least_bits, most_bits};
 
 use crate::cells::cell_at;
 use crate::hash::word_of;
-use sb_laws::{Commuting, Items, Monoid, NoMemory, Semigroup, Undo};
+use crate::registers::{Registers, greater};
+use crate::undone::RegistersUndone;
+use sb_laws::{Commuting, Monoid, NoMemory, Semigroup, Undo};
 use std::alloc::Global;
 use std::marker::Model;
-
-/// The registers of a HyperLogLog, from number 0.
-pub type Registers = Items<u8>;
 
 /// HyperLogLog of 2 to the power b registers, of which the greater of each two is taken; the zero has all registers 0.
 /// Contracts see the number b.
@@ -65,33 +64,36 @@ impl HllM {
         registers[at] = greater(register, first_one(word, bits));
     }
 
-    /// Adds one item in place: `plus` of what `one` gives, without making it.
-    pub fn add_item(&self, registers: &mut Registers, item: &[u8])
+    /// Adds one item: `plus` of what `one` gives. Memory is taken only for a short form, which becomes a full list. A refusal
+    /// leaves the registers as they were.
+    pub fn add_item(
+        &self,
+        alloc: Global,
+        registers: &mut Registers,
+        item: &[u8],
+    ) -> Result<(), NoMemory>
         requires { AreRegisters self.now registers.old }
-        ensures raised { registers.new ≡ greatest_of_both registers.old
-            (registers_of self.now item.now) }
+        ensures raised { OnOk result (registers.new
+            ≡ greatest_of_both registers.old (registers_of self.now item.now)) }
         ensures valid { AreRegisters self.now registers.new }
+        ensures err { OnErr result (registers.new ≡ registers.old) }
     {
-        let mut raised = registers.take();
+        let mut raised = registers.take_full(alloc)?;
         self.raise(&mut raised, item);
-        *registers = Items::from_vec(raised);
+        *registers = Registers::from_vec(raised);
+        Ok(())
     }
 
-    /// The registers of one item.
-    pub fn one(&self, alloc: Global, item: &[u8]) -> Result<Registers, NoMemory>
-        ensures sketch { IfOk result (λ registers. registers ≡ registers_of self.now item.now) }
-        ensures valid { IfOk result (AreRegisters self.now) }
+    /// The registers of one item, in the short form. No memory is taken.
+    pub fn one(&self, item: &[u8]) -> Registers
+        ensures sketch { result ≡ registers_of self.now item.now }
+        ensures valid { AreRegisters self.now result }
     {
-        let mut registers = self.zero(alloc)?;
-        self.add_item(&mut registers, item);
-        Ok(registers)
+        let word = word_of(item);
+        let bits = u32::from(self.bits);
+        let at = (word >> (64 - bits)) as u16;
+        Registers::one(1 << bits, at, first_one(word, bits))
     }
-}
-
-fn greater(a: u8, b: u8) -> u8
-    ensures { result ≡ max a b }
-{
-    if a < b { b } else { a }
 }
 
 // The place, from 1, of the first one bit of the word after its top bits.
@@ -101,17 +103,6 @@ fn first_one(word: u64, bits: u32) -> u8
 {
     let rest = word & ((1 << (64 - bits)) - 1);
     (rest.leading_zeros() - bits) as u8 + 1
-}
-
-// Puts the greater of each register of the left and that of the right into the right.
-fn raise_to_left(left: &[u8], right: &mut Vec<u8>)
-    requires { length right.old.items ≡ length left.now }
-    ensures { right.new.items ≡ greatest_of_both left.now right.old.items }
-{
-    for (at, register) in left.iter().enumerate() {
-        let raised = greater(*register, cell_at(right.as_slice(), at));
-        right[at] = raised;
-    }
 }
 
 impl Semigroup for HllM {
@@ -128,18 +119,19 @@ impl Semigroup for HllM {
 
     ghost associates = { λ _ a b c p q r. cells_associate max greatest_associate a b c };
 
+    // Only where both are short is memory taken.
     fn plus(&self, alloc: Global, a: &mut Registers, b: Registers) -> Result<(), NoMemory>
         requires left { AreRegisters self.now a.old }
         requires right { AreRegisters self.now b }
-        ensures greatest { a.new ≡ greatest_of_both a.old b }
-        ensures done { IsOk result }
+        ensures greatest { OnOk result (a.new ≡ greatest_of_both a.old b) }
+        ensures err { OnErr result (a.new ≡ a.old) }
     {
-        let _ = self.plus_recorded(alloc, a, b)?;
+        let _ = a.add(alloc, b)?;
         Ok(())
     }
 
     fn copy(&self, alloc: Global, a: &Registers) -> Result<Registers, NoMemory> {
-        Ok(Items::from_vec(Vec::from_slice(alloc, a.as_slice())?))
+        a.copy(alloc)
     }
 }
 
@@ -158,11 +150,11 @@ impl Monoid for HllM {
 
     fn zero(&self, alloc: Global) -> Result<Registers, NoMemory> {
         let count = 1 << usize::from(self.bits);
-        Ok(Items::from_vec(Vec::from_elem(alloc, 0, count)?))
+        Ok(Registers::from_vec(Vec::from_elem(alloc, 0, count)?))
     }
 
     fn is_zero(&self, a: &Registers) -> bool {
-        a.as_slice().iter().all(|&register| register == 0)
+        a.are_zeros()
     }
 }
 
@@ -173,28 +165,28 @@ impl Commuting for HllM {
 }
 
 impl Undo for HllM {
-    type Undone = Registers;
+    ghost use Rattle.sb_sketch.specs.Undone.{RegistersBack};
 
-    ghost takes_back = { λ _ kept _ earlier. kept ≡ earlier };
+    type Undone = RegistersUndone;
 
-    // The greater ones are put in the room of the right, so that the left is what takes the plus back.
+    ghost takes_back = { λ _ undone later earlier. RegistersBack undone later earlier };
+
     fn plus_recorded(
         &self,
-        _alloc: Global,
+        alloc: Global,
         a: &mut Registers,
         b: Registers,
-    ) -> Result<Registers, NoMemory>
+    ) -> Result<RegistersUndone, NoMemory>
         requires left { AreRegisters self.now a.old }
         requires right { AreRegisters self.now b }
-        ensures greatest { a.new ≡ greatest_of_both a.old b }
-        ensures kept { result ≡ Ok a.old }
+        ensures greatest { OnOk result (a.new ≡ greatest_of_both a.old b) }
+        ensures undo { IfOk result (λ undone. RegistersBack undone a.new a.old) }
+        ensures err { OnErr result (a.new ≡ a.old) }
     {
-        let mut raised = b.into_vec();
-        raise_to_left(a.as_slice(), &mut raised);
-        Ok(std::mem::replace(a, Items::from_vec(raised)))
+        a.add(alloc, b)
     }
 
-    fn undo(&self, a: &mut Registers, kept: Registers) {
-        *a = kept;
+    fn undo(&self, a: &mut Registers, undone: RegistersUndone) {
+        a.take_back(undone)
     }
 }

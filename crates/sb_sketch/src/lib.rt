@@ -3,8 +3,15 @@
 
 mod cells;
 mod cms;
+mod counts;
 mod hash;
 mod hll;
+mod places;
+mod registers;
+mod undone;
 
-pub use cms::{Cells, CmsM};
-pub use hll::{HllM, Registers};
+pub use cms::CmsM;
+pub use counts::Cells;
+pub use hll::HllM;
+pub use registers::Registers;
+pub use undone::{CellsUndone, RegistersUndone};

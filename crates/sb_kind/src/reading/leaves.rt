@@ -7,8 +7,8 @@ ghost use Rattle.sb_kind.specs.declared.agg.Agg.{Sum, Min, Max, First, Last, Hll
 
 use crate::agg::Agg;
 use hex::FromHexError;
-use sb_laws::{Items, NoMemory};
-use sb_sketch::HllM;
+use sb_laws::NoMemory;
+use sb_sketch::{HllM, Registers};
 use sb_text::read_i64;
 use sb_types::{Ty, Val, split_leaf};
 use std::alloc::{AllocError, Global};
@@ -99,7 +99,7 @@ pub fn read_hll<'a>(
 {
     let (leaf, rest) = split_leaf(bytes);
     match registers_in(hll, alloc, leaf)? {
-        Some(registers) => Ok(Some((Agg::Hll(Items::from_vec(registers)), rest))),
+        Some(registers) => Ok(Some((Agg::Hll(Registers::from_vec(registers)), rest))),
         None => Ok(None),
     }
 }

@@ -11,7 +11,7 @@ use crate::keyed::ValueSets;
 use crate::sorted::is_sorted;
 use sb_gather::TopM;
 use sb_laws::{Items, NoMemory};
-use sb_sketch::CmsM;
+use sb_sketch::{Cells, CmsM};
 use sb_text::{Text, read_u64, unescape};
 use sb_types::{Ty, Val, expect, split_leaf};
 use std::alloc::Global;
@@ -231,5 +231,5 @@ pub fn read_cms<'a>(
     let Some(bytes) = expect(b']', bytes) else {
         return Ok(None);
     };
-    Ok(Some((Agg::Cms(Items::from_vec(cells)), bytes)))
+    Ok(Some((Agg::Cms(Cells::from_vec(cells)), bytes)))
 }

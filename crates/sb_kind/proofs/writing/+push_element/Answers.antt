@@ -1,4 +1,4 @@
-use Rattle.std.proofs.Common.{◌≡◌, ◌∙◌, ◌++◌, ◌∷◌, suc, drop, ap, sym, arith}
+use Rattle.std.proofs.Common.{◌≡◌, ◌∙◌, ◌++◌, ◌∷◌, suc, drop, refl, ap, sym, arith}
 use Rattle.std.proofs.Math.Seq.{drop-cons}
 use Rattle.sb_types.proofs.ValTexts.{front_kept, front_own, front_step}
 use Rattle.sb_kind.proofs.Texts.{text-Concat, text-Set, text-Top, text-Cms, text_of_pair, opened_map, entry_written}
@@ -47,7 +47,7 @@ returns-in-Top-clause-ok t c =
 
 pub returns-in-Cms-clause-ok : goal.returns-in-Cms-clause-ok
 returns-in-Cms-clause-ok t c =
-    rw (text-Cms c.args.a.now c.in-Cms.cells c.as_slice-in-Cms.result.now c.in-Cms.is c.as_slice-in-Cms.ensures) at c.push_cells.ensures.ok
+    rw (text-Cms c.args.a.now c.in-Cms.cells c.in-Cms.cells c.in-Cms.is refl) at c.push_cells.ensures.ok
 
 pub returns-in_ok-push-in-Pair-3-clause-ok : goal.returns-in_ok-push-in-Pair-3-clause-ok
 returns-in_ok-push-in-Pair-3-clause-ok t c =

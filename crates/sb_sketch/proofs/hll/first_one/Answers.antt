@@ -1,5 +1,5 @@
 use Rattle.std.proofs.Common.{arith}
-use Rattle.sb_sketch.proofs.Registers.{zeros_after}
+use Rattle.sb_sketch.proofs.Raising.{zeros_after}
 use Rattle.sb_sketch.proofs.hll.first_one.Goals as goal
 
 pub overflow_sub-result : goal.overflow_sub-result

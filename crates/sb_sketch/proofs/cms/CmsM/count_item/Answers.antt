@@ -16,4 +16,4 @@ loop-row-preserved c =
     let r = c.loop-row.row in
     let here = rw c.as_slice.ensures.value at c.cell_at-count.ensures in
     next_row w (λ row. cell_of w row c.args.item.now) c.args.counts.now.items c.loop-row.counts.items (shape.rows * w) r c.place_of-at.result c.cell_at-count.result
-    c.loop-row.invariant c.place_of-at.ensures here (mod_below _ w (subst (λ s. 0 < s.width) c.self.view_is c.self.invariant)) (row_fits r w shape.rows w (subst (λ s. r < s.rows) c.self.view_is c.loop-row-test.true) (omega arith))
+    c.loop-row.invariant c.place_of-at.ensures.place here (mod_below _ w (subst (λ s. 0 < s.width) c.self.view_is c.self.invariant.0)) (row_fits r w shape.rows w (subst (λ s. r < s.rows) c.self.view_is c.loop-row-test.true) (omega arith))

@@ -1,7 +1,7 @@
 use Rattle.std.proofs.Common.{◌≡◌, ◌≤◌, sym, ap, subst, ◌∙◌}
 use Rattle.std.specs.Prelude.{length}
 use Rattle.sb_sketch.specs.Hll.{AreRegisters}
-use Rattle.sb_sketch.proofs.Registers.{register_there, raise_is, raised_are}
+use Rattle.sb_sketch.proofs.Raising.{register_there, raise_is, raised_are}
 use Rattle.sb_sketch.proofs.hll.HllM.raise.Goals as goal
 
 pub cell_at-register-requires : goal.cell_at-register-requires

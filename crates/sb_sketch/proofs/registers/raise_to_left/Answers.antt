@@ -1,7 +1,7 @@
 use Rattle.std.proofs.Common.{ap, ◌∙◌, arith}
 use Rattle.std.specs.Prelude.{max, slice_set}
 use Rattle.sb_sketch.proofs.Joining.{one_more, all_joined}
-use Rattle.sb_sketch.proofs.hll.raise_to_left.Goals as goal
+use Rattle.sb_sketch.proofs.registers.raise_to_left.Goals as goal
 
 pub loop-at-preserved : goal.loop-at-preserved
 loop-at-preserved c =

@@ -1,7 +1,7 @@
 use Rattle.std.proofs.Common.{arith}
 use Rattle.sb_sketch.specs.Cells.{wrapping_sum}
 use Rattle.sb_sketch.proofs.Joining.{one_more, all_joined}
-use Rattle.sb_sketch.proofs.cms.add_left.Goals as goal
+use Rattle.sb_sketch.proofs.counts.add_left.Goals as goal
 
 pub loop-at-preserved : goal.loop-at-preserved
 loop-at-preserved c =
