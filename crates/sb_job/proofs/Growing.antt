@@ -53,6 +53,10 @@ pub lent_is : {E : Type 0} (lent : Option (Bor E)) (found : Option E) → option
 lent_is None found e = sym e
 lent_is (Some value) found e = sym e
 
+pub found_is : {E : Type 0} (lent : Option (Bor E)) (found : Option E) → MatchOption lent (found ≡ None) (λ value. found ≡ Some value.now) → option_map (λ value. value.now) lent ≡ found
+found_is None found e = sym e
+found_is (Some value) found e = sym e
+
 module _ {E : Type 0} (d : Dictionaries E) where
   same_turned : (a b : KeyBytes) → same_key a b ≡ same_key b a
   same_turned a b = (eq_by_cmp_equiv key_order_total).symm a b

@@ -66,7 +66,8 @@ fn is_wanted<E>(part: &Part<E>, key: &KeyBytes, from: u64, upto: u64) -> bool
     is_key(key, &part.key) && from <= part.batch && part.batch <= upto
 }
 
-fn is_key(a: &KeyBytes, b: &KeyBytes) -> bool
+/// Whether two keys are the same.
+pub fn is_key(a: &KeyBytes, b: &KeyBytes) -> bool
     ensures { result ≡ same_key a.now b.now }
 {
     a == b

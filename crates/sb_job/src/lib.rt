@@ -6,7 +6,7 @@ mod key_set;
 mod key_sums;
 mod lists;
 
-pub use by_batch::{add_asked, push_found};
+pub use by_batch::{add_asked, is_key, push_found};
 pub use key_set::KeySet;
 pub use key_sums::{KeySums, sum_parts};
 pub use lists::{drop_first, up_to};
