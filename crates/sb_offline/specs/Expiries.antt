@@ -14,11 +14,11 @@ abbrev pub sums_below : {E : Type 0} → OfflineValue E → KeyBytes → ℕ →
 sums_below held key n = map (λ pair. pair.1) (rows_from key 0 (take n held.rows))
 
 -- The floor is raised, unless it was higher. The base has the sums of the batches below it in addition, each on the right of what was there, and no published sum is left there.
-pub record IsExpired {E : Type 0} (add : ℕ → E → E → E) (floor : ℕ) (before after : OfflineValue E) : Type 0 where
-  pub floor : after.floor ≡ max before.floor floor
+pub record IsExpired {E : Type 0} (add : ℕ → E → E → E) (asked : ℕ) (before after : OfflineValue E) : Type 0 where
+  pub floor : after.floor ≡ max before.floor asked
   pub published_to : published_to after ≡ published_to before
-  pub base : (key : KeyBytes) → base_sum add after key ≡ sum_of (add key.store) (values_at key_order key (base_values before) ++ sums_below before key floor)
-  pub published : (key : KeyBytes) (j : ℕ) → published_sum after key j ≡ (if nat_le floor j then published_sum before key j else None)
+  pub base : (key : KeyBytes) → base_sum add after key ≡ sum_of (add key.store) (values_at key_order key (base_values before) ++ sums_below before key asked)
+  pub published : (key : KeyBytes) (j : ℕ) → published_sum after key j ≡ (if nat_le asked j then published_sum before key j else None)
 
 -- the rows of the first lists, one list after the other
 abbrev pub rows_below : {A : Type 0} → ℕ → List (List A) → List A
@@ -31,12 +31,12 @@ emptied (suc n) [] = []
 emptied (suc n) (rows ∷ lists) = [] ∷ emptied n lists
 
 -- the rows below the floor wait to be added to the base; they rise
-pub record IsRaised {E : Type 0} (floor : ℕ) (before after : OfflineValue E) : Type 0 where
+pub record IsRaised {E : Type 0} (asked : ℕ) (before after : OfflineValue E) : Type 0 where
   pub base : after.base ≡ before.base
-  pub waiting : after.waiting ≡ before.waiting ++ rows_below floor before.rows
-  pub rows : after.rows ≡ emptied floor before.rows
-  pub floor : after.floor ≡ max before.floor floor
-  pub rising : AllByRecursion (λ rows. IsTrue (is_sorted key_order rows)) (take floor before.rows)
+  pub waiting : after.waiting ≡ before.waiting ++ rows_below asked before.rows
+  pub rows : after.rows ≡ emptied asked before.rows
+  pub floor : after.floor ≡ max before.floor asked
+  pub rising : AllByRecursion (λ rows. IsTrue (is_sorted key_order rows)) (take asked before.rows)
 
 -- the base sums are the same, however many of the waiting values were added
 pub record IsSettled {E : Type 0} (add : ℕ → E → E → E) (before after : OfflineValue E) : Type 0 where

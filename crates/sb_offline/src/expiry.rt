@@ -1,6 +1,6 @@
 //! How rows go to the base: made to wait within a room that is made before, and added as far as memory goes.
-ghost use Rattle.std.specs.Prelude.{◌≡◌, ◌≤◌, ◌+◌, ◌++◌, List, take, length, vec_len, vec_capacity, IsTrue, IsOk, IfOk};
-ghost use Rattle.std.specs.List.{AllByRecursion, IsDistinct, flat_map};
+ghost use Rattle.std.specs.Prelude.{◌≡◌, ◌≤◌, ◌+◌, ◌++◌, List, [], take, length, vec_len, vec_capacity, IsTrue, IsOk, IfOk};
+ghost use Rattle.std.specs.List.{AllByRecursion, IsDistinct};
 ghost use Rattle.std.specs.FinMap.{is_sorted};
 ghost use Rattle.std.specs.Map.{keys_of};
 ghost use Rattle.sb_feed.specs.declared.key.KeyBytes.{KeyBytes as Key};
@@ -36,13 +36,16 @@ impl From<NoMemory> for ExpireError {
     }
 }
 
-/// The number of all rows of lists; refused where no list could have so many.
-pub fn count_rows<E>(lists: &[RowList<E>]) -> Result<usize, NoMemory>
-    ensures { IfOk result (λ count. count ≡ length (flat_map (λ rows. rows) lists.now)) }
+/// The number of the rows of some lists, where those before them have none; refused where no list could have so many.
+pub fn count_rows<E>(lists: &[RowList<E>], from: u64, to: u64) -> Result<usize, NoMemory>
+    requires order { from ≤ to }
+    requires within { to ≤ length lists.now }
+    requires below { AllByRecursion (λ rows. rows ≡ []) (take from lists.now) }
+    ensures { IfOk result (λ count. count ≡ length (rows_below to lists.now)) }
 {
     let mut count = 0;
-    for rows in lists {
-        count = sum_within(count, rows.len())?;
+    for batch in from..to {
+        count = sum_within(count, lists[batch as usize].len())?;
     }
     Ok(count)
 }

@@ -9,7 +9,7 @@ ghost use Rattle.sb_feed.specs.Keys.{key_order, same_key};
 ghost use Rattle.sb_job.specs.ByBatch.{one_or_none, rows_from};
 
 use sb_feed::{KeyBytes, RowList};
-use sb_job::{KeySet, push_found};
+use sb_job::{KeySet, is_key, push_found};
 use sb_laws::{NoMemory, Semigroup};
 use std::alloc::Global;
 
@@ -91,12 +91,6 @@ fn with_row<M: Semigroup>(
         }
         None => Ok(Some(value)),
     }
-}
-
-fn is_key(a: &KeyBytes, b: &KeyBytes) -> bool
-    ensures { result ≡ same_key a.now b.now }
-{
-    a == b
 }
 
 /// Puts the keys of the rows of all lists into a set.

@@ -140,7 +140,7 @@ impl<E: Drop> Offline<E> {
         if floor <= from {
             return Ok(());
         }
-        let count = count_rows(&self.rows[from as usize..floor as usize])?;
+        let count = count_rows(self.rows.as_slice(), from, floor)?;
         self.waiting.reserve(count)?;
         move_rows(alloc, &mut self.rows, from, floor, &mut self.waiting)?;
         self.floor = floor;
