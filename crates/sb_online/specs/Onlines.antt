@@ -1,5 +1,5 @@
 -- What the online store of a shard keeps, and the sums that it holds by it.
-use Rattle.std.specs.Prelude.{◌≡◌, ℕ, suc, Bool, false, not, ◌&&◌, nat_le, ◌==◌, List, [], ◌∷◌, ◌++◌, map, filter, Option, None, if◌then◌else◌}
+use Rattle.std.specs.Prelude.{◌≡◌, ℕ, suc, false, not, ◌&&◌, nat_le, ◌==◌, List, [], ◌∷◌, ◌++◌, map, filter, Option, None, if◌then◌else◌}
 use Rattle.std.specs.List.{AllByRecursion, IsDistinct}
 use Rattle.std.specs.Map.{keys_of}
 use Rattle.sb_feed.specs.declared.key.KeyBytes.{KeyBytes}

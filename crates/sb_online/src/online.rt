@@ -11,9 +11,9 @@ ghost use Rattle.sb_feed.specs.Stands.{keyed_values, sum_at, HasSums};
 ghost use Rattle.sb_job.specs.Sums.{HasKeySums};
 ghost use Rattle.sb_online.specs.Onlines.{parts_of, online_sum, sum_from, kept_by, parts_from, without, ShareNone};
 
-use crate::tables::{add_copies, add_tables, empty_table, gather_sums, put_table_keys};
+use crate::tables::{add_copies, add_tables, empty_table, gather, put_table_keys};
 use sb_feed::{Family, KeyBytes, Part, PartList, Sums};
-use sb_job::{KeySet, KeySums, add_asked, drop_first, up_to};
+use sb_job::{KeySet, KeySums, drop_first, up_to};
 use sb_laws::{NoMemory, Semigroup};
 use sb_text::Ranges;
 use std::alloc::Global;
@@ -149,10 +149,10 @@ impl<E: Drop> Online<E> {
             key.now)) }
         ensures rising { IfOk result (λ sums. IsTrue (is_sorted nat_cmp sums)) }
     {
-        let m = family.monoid(key.store);
         let tables = up_to(self.tables.as_slice(), upto);
-        let mut sums = gather_sums(alloc, m, tables, key, from)?;
-        add_asked(alloc, m, &mut sums, self.waiting.as_slice(), key, from, upto)?;
+        let waiting = self.waiting.as_slice();
+        let m = family.monoid(key.store);
+        let sums = gather(alloc, m, tables, waiting, key, from, upto)?;
         Ok(Sums::from_vec(sums))
     }
 

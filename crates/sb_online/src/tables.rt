@@ -1,16 +1,18 @@
 //! Tables of sums by batch.
 ghost use Rattle.std.specs.Prelude.{◌≡◌, ◌≤◌, ◌<◌, ◌+◌, ◌++◌, ◌∷◌, ◌||◌, ℕ, List, [], drop, length, IfOk, OnOk, OnErr};
-ghost use Rattle.std.specs.List.{list_any, flat_map};
+ghost use Rattle.std.specs.List.{AllByRecursion, list_any, flat_map};
+ghost use Rattle.std.specs.Ordering.{nat_cmp};
+ghost use Rattle.sb_laws.specs.Tables.{add_all};
 ghost use Rattle.sb_feed.specs.declared.key.KeyBytes.{KeyBytes as Key};
 ghost use Rattle.sb_feed.specs.Keys.{same_key};
 ghost use Rattle.sb_feed.specs.Jobs.{AreValid, meant};
 ghost use Rattle.sb_feed.specs.Stands.{keyed_values, sum_at};
 ghost use Rattle.sb_job.specs.Sums.{HasKeySums};
-ghost use Rattle.sb_job.specs.ByBatch.{rows_from};
+ghost use Rattle.sb_job.specs.ByBatch.{asked, rows_from};
 ghost use Rattle.sb_online.specs.Onlines.{tables_parts, AreApart, AddsPart, without};
 
 use sb_feed::{Family, KeyBytes, Part};
-use sb_job::{KeySet, KeySums, push_found};
+use sb_job::{KeySet, KeySums, add_asked, push_found};
 use sb_laws::{NoMemory, Semigroup};
 use std::alloc::Global;
 
@@ -98,8 +100,31 @@ pub fn empty_table<E: Drop>(alloc: Global, tables: &mut Vec<KeySums<E>>, batch: 
     }
 }
 
-/// Copies of the sums of a key in the tables of the batches from one on, each with its batch.
-pub fn gather_sums<M: Semigroup>(
+/// The sums of a key by batch, of the batches from one on and up to another: copies of what the tables have, to which
+/// copies of the parts are added. The tables are those up to the last batch.
+pub fn gather<M: Semigroup>(
+    alloc: Global,
+    m: &M,
+    tables: &[KeySums<M::El>],
+    parts: &[Part<M::El>],
+    key: &KeyBytes,
+    from: u64,
+    upto: u64,
+) -> Result<Vec<(u64, M::El)>, NoMemory>
+    requires tables { AllByRecursion (λ pair. M.valid m.now pair.1)
+        (rows_from key.now from (drop from tables.now)) }
+    requires parts { AllByRecursion (λ pair. M.valid m.now pair.1)
+        (asked key.now from upto parts.now) }
+    ensures { IfOk result (λ sums. sums.items ≡ add_all nat_cmp (M.add m.now)
+        (rows_from key.now from (drop from tables.now)) (asked key.now from upto parts.now)) }
+{
+    let mut sums = gather_sums(alloc, m, tables, key, from)?;
+    add_asked(alloc, m, &mut sums, parts, key, from, upto)?;
+    Ok(sums)
+}
+
+// Copies of the sums of a key in the tables of the batches from one on, each with its batch.
+fn gather_sums<M: Semigroup>(
     alloc: Global,
     m: &M,
     tables: &[KeySums<M::El>],
