@@ -1,12 +1,12 @@
 -- A value added at its key in a map by hash, against the sums of the values so far.
-use Rattle.std.proofs.Common.{◌≡◌, ◌<◌, Bool, true, false, cond, List, [], ◌∷◌, ◌++◌, map, filter, Option, Some, None, refl, sym, ap, subst, ◌∙◌, append-nil}
+use Rattle.std.proofs.Common.{◌≡◌, ◌<◌, Bool, true, false, cond, List, [], ◌∷◌, ◌++◌, map, filter, Option, Some, None, refl, sym, ap, subst, ◌∙◌, append-nil, Bor}
 use Rattle.std.specs.Prelude.{◌==◌}
 use Rattle.std.specs.Cmp.Lexicographic.{pointwise}
 use Rattle.std.specs.FinMap.{find}
 use Rattle.std.specs.List.{AllByRecursion, IsDistinct}
 use Rattle.std.specs.List.Sorted.{IsPermutation}
 use Rattle.std.specs.Map.{lookup, set_value}
-use Rattle.std.specs.Option.{MatchOption}
+use Rattle.std.specs.Option.{MatchOption, option_map}
 use Rattle.std.specs.declared.result.Result.{Result}
 use Rattle.std.specs.declared.result.Result.TheVariants.{Ok, Err}
 use Rattle.std.specs.Result.{OnOk, OnErr}
@@ -47,6 +47,15 @@ module _ {E : Type 0} where
   pub lookup_is_find : (q : KeyBytes) (es : List (KeyBytes × E)) → lookup (equals q) es ≡ find key_order q es
   lookup_is_find q [] = refl
   lookup_is_find q (e ∷ es) = ap (λ b. cond b (Some e.1) (lookup (equals q) es)) (equals_same q e.0) ∙ ap (λ o. cond (same_key q e.0) (Some e.1) o) (lookup_is_find q es)
+
+-- what is lent is what is found
+pub lent_is : {E : Type 0} (lent : Option (Bor E)) (found : Option E) → option_map (λ value. value.now) lent ≡ found → MatchOption lent (found ≡ None) (λ value. found ≡ Some value.now)
+lent_is None found e = sym e
+lent_is (Some value) found e = sym e
+
+pub found_is : {E : Type 0} (lent : Option (Bor E)) (found : Option E) → MatchOption lent (found ≡ None) (λ value. found ≡ Some value.now) → option_map (λ value. value.now) lent ≡ found
+found_is None found e = sym e
+found_is (Some value) found e = sym e
 
 module _ {E : Type 0} (d : Dictionaries E) where
   same_turned : (a b : KeyBytes) → same_key a b ≡ same_key b a

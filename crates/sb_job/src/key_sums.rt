@@ -1,7 +1,7 @@
 //! The sum of each key: hashed while it grows, and sorted once at the end.
-ghost use Rattle.std.specs.Prelude.{◌≡◌, ◌<◌, [], ◌∷◌, ◌++◌, List, length, slice_get, IsTrue, IfOk, OnOk, OnErr};
+ghost use Rattle.std.specs.Prelude.{◌≡◌, ◌<◌, ◌||◌, [], ◌∷◌, ◌++◌, List, length, slice_get, IsTrue, None, Some, MatchOption, IfOk, OnOk, OnErr};
 ghost use Rattle.std.specs.FinMap.{find, is_sorted};
-ghost use Rattle.std.specs.List.{IsDistinct};
+ghost use Rattle.std.specs.List.{IsDistinct, list_any};
 ghost use Rattle.std.specs.List.Sorted.{IsPermutation, IsSortedByKey};
 ghost use Rattle.std.specs.Map.{keys_of};
 ghost use Rattle.sb_feed.specs.declared.key.KeyBytes.{KeyBytes as Key};
@@ -10,8 +10,9 @@ ghost use Rattle.sb_feed.specs.Jobs.{AreValid, meant, valid_by};
 ghost use Rattle.sb_feed.specs.Stands.{keyed_values};
 ghost use Rattle.sb_job.specs.Sums.{HasKeySums};
 
+use crate::key_set::KeySet;
 use sb_feed::{Family, KeyBytes, Part, RowList};
-use sb_laws::{NoMemory, Semigroup};
+use sb_laws::{Key as _, NoMemory, Semigroup};
 use std::alloc::Global;
 use std::collections::HashMap;
 use std::collections::hash_map::Entry;
@@ -42,6 +43,14 @@ impl<E> KeySums<E> {
         }
     }
 
+    /// The sum of a key.
+    pub fn get(&self, key: &KeyBytes) -> Option<&E>
+        ensures { MatchOption result (find key_order key.now self.now ≡ None)
+            (λ sum. find key_order key.now self.now ≡ Some sum.now) }
+    {
+        self.sums.get(key)
+    }
+
     /// Adds a value on the right of its key's sum, in place and with one look-up. A refusal leaves the sums as they were.
     pub fn add<F: Family>(
         &mut self,
@@ -60,6 +69,7 @@ impl<E> KeySums<E> {
             → HasKeySums (meant F.M.valid F.M.add (F.monoids family.now)) values self.old
             → HasKeySums (meant F.M.valid F.M.add (F.monoids family.now))
             (values ++ (key, value) ∷ []) self.new) }
+        ensures apart { IsDistinct same_key (keys_of self.new) }
         ensures err { OnErr result (self.new ≡ self.old) }
     {
         let store = key.store;
@@ -70,6 +80,91 @@ impl<E> KeySums<E> {
                 Ok(())
             }
         }
+    }
+
+    /// Does what `add` does, by copies of the key and the value.
+    pub fn add_copy<F: Family>(
+        &mut self,
+        alloc: Global,
+        family: &F,
+        key: &KeyBytes,
+        value: &E,
+    ) -> Result<(), NoMemory>
+    where
+        F::M: Semigroup<El = E>,
+        requires store { key.now.store < length (F.monoids family.now) }
+        requires value { valid_by F.M.valid (slice_get (F.monoids family.now) key.now.store)
+            value.now }
+        requires sums { AreValid (meant F.M.valid F.M.add (F.monoids family.now)) self.old }
+        ensures valid { AreValid (meant F.M.valid F.M.add (F.monoids family.now)) self.new }
+        ensures sums { OnOk result ((values : List (Key × E))
+            → HasKeySums (meant F.M.valid F.M.add (F.monoids family.now)) values self.old
+            → HasKeySums (meant F.M.valid F.M.add (F.monoids family.now))
+            (values ++ (key.now, value.now) ∷ []) self.new) }
+        ensures apart { OnOk result (IsDistinct same_key (keys_of self.new)) }
+        ensures err { OnErr result (self.new ≡ self.old) }
+    {
+        let copy = family.monoid(key.store).copy(alloc, value)?;
+        let key = key.copy(alloc)?;
+        self.add(alloc, family, key, copy)
+    }
+
+    /// Adds values, one after the other. After a refusal those before the refused one are added.
+    pub fn add_values<F: Family>(
+        &mut self,
+        alloc: Global,
+        family: &F,
+        values: Vec<(KeyBytes, E)>,
+    ) -> Result<(), NoMemory>
+    where
+        E: Drop,
+        F::M: Semigroup<El = E>,
+        requires values { AreValid (meant F.M.valid F.M.add (F.monoids family.now)) values.items }
+        requires sums { AreValid (meant F.M.valid F.M.add (F.monoids family.now)) self.old }
+        ensures valid { AreValid (meant F.M.valid F.M.add (F.monoids family.now)) self.new }
+        ensures sums { OnOk result ((before : List (Key × E))
+            → HasKeySums (meant F.M.valid F.M.add (F.monoids family.now)) before self.old
+            → HasKeySums (meant F.M.valid F.M.add (F.monoids family.now))
+            (before ++ values.items) self.new) }
+    {
+        for (key, value) in values {
+            self.add(alloc, family, key, value)?;
+        }
+        Ok(())
+    }
+
+    /// Adds the sums of another table. After a refusal some of them are added.
+    pub fn add_sums<F: Family>(
+        &mut self,
+        alloc: Global,
+        family: &F,
+        more: KeySums<E>,
+    ) -> Result<(), NoMemory>
+    where
+        E: Drop,
+        F::M: Semigroup<El = E>,
+        requires more { AreValid (meant F.M.valid F.M.add (F.monoids family.now)) more }
+        requires sums { AreValid (meant F.M.valid F.M.add (F.monoids family.now)) self.old }
+        ensures valid { OnOk result (AreValid (meant F.M.valid F.M.add (F.monoids family.now))
+            self.new) }
+        ensures sums { OnOk result ((values : List (Key × E))
+            → HasKeySums (meant F.M.valid F.M.add (F.monoids family.now)) values self.old
+            → HasKeySums (meant F.M.valid F.M.add (F.monoids family.now)) (values ++ more)
+            self.new) }
+    {
+        let values = entries_of(alloc, more.sums)?;
+        self.add_values(alloc, family, values)
+    }
+
+    /// Puts the keys into a set.
+    pub fn put_keys(&self, alloc: Global, keys: &mut KeySet) -> Result<(), NoMemory>
+        ensures { OnOk result ((q : Key) → list_any (same_key q) keys.new
+            ≡ (list_any (same_key q) keys.old || list_any (λ row. same_key q row.0) self.now)) }
+    {
+        for key in self.sums.keys() {
+            keys.put(alloc, key)?;
+        }
+        Ok(())
     }
 
     /// Adds the values of rows, one after the other. After a refusal those before the refused one are added.
@@ -91,10 +186,7 @@ impl<E> KeySums<E> {
             self.new) }
         ensures rising { OnOk result (IsTrue (is_sorted key_order rows)) }
     {
-        for (key, value) in rows.into_vec() {
-            self.add(alloc, family, key, value)?;
-        }
-        Ok(())
+        self.add_values(alloc, family, rows.into_vec())
     }
 
     /// Adds the values of parts, one after the other. After a refusal those before the refused one are added.

@@ -1,10 +1,12 @@
 use Rattle.std.proofs.Common.{◌≡◌, ◌∙◌, Some, None, ap, sym, subst, refl, rules}
 use Rattle.std.specs.HashMap.Entry.{entry_value, map_with_value}
-use Rattle.std.specs.Map.{lookup}
+use Rattle.std.specs.List.{IsDistinct}
+use Rattle.std.specs.Map.{lookup, keys_of}
 use Rattle.std.proofs.lemmas.Result.{on_ok_weaker, on_err_weaker}
 use Rattle.sb_feed.specs.Jobs.{meant, valid_by, AreValid}
 use Rattle.sb_job.specs.Sums.{HasKeySums}
-use Rattle.sb_job.proofs.Growing.{equals, found_valid, put_valid, put_same, sums_with, written_valid}
+use Rattle.sb_feed.specs.Keys.{same_key}
+use Rattle.sb_job.proofs.Growing.{apart, equals, found_valid, put_valid, put_same, sums_with, written_valid}
 use Rattle.sb_job.proofs.key_sums.KeySums.add.Goals as goal
 use Rattle.sb_job.proofs.key_sums.KeySums.add.Goals.{in-Occupied, in-Vacant}
 
@@ -68,4 +70,20 @@ returns-clause-err g c =
           rw (w.result-is, is) (on_err_weaker w.plus.result (λ e. put_same d c.args.key w.plus.new.a before (map_with_value c.in_ok-sum.field-0 w.plus.new.a).entries _ (found ∙ ap Some (sym e)) refl
           (c.in_ok-sum.ensures.update.1 w.plus.new.a) ∙ c.self.view_is) w.plus.ensures.err)
       | in-Vacant w ↦ rw w.result-is tt
+    ]
+
+pub returns-in_err-sum-clause-apart : goal.returns-in_err-sum-clause-apart
+returns-in_err-sum-clause-apart g c =
+    let same : c.entry.follows.lender-at-none.entries ≡ c.self.inside.sums.entries = search rules in
+    subst (λ es. IsDistinct same_key (keys_of es)) (sym same) (apart _ c.entry.ensures.unique)
+
+pub returns-clause-apart : goal.returns-clause-apart
+returns-clause-apart g c =
+    elim c.match-branch-2.branch [
+      | in-Occupied w ↦
+          let is : c.match-branch-2.self-inside.sums ≡ map_with_value c.in_ok-sum.field-0 w.plus.new.a = search rules in
+          rw is (apart _ (c.in_ok-sum.ensures.update.2 w.plus.new.a))
+      | in-Vacant w ↦
+          let is : c.match-branch-2.self-inside.sums ≡ map_with_value c.in_ok-sum.field-0 c.args.value = search rules in
+          rw is (apart _ (c.in_ok-sum.ensures.update.2 c.args.value))
     ]

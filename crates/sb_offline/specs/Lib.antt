@@ -1,0 +1,2 @@
+pub mod Offlines
+pub mod Expiries
