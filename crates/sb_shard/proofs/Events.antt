@@ -1,5 +1,5 @@
 -- A new shard, a flush and an installation.
-use Rattle.std.proofs.Common.{◌≡◌, ◌⊎◌, inl, inr, ℕ, zero, suc, ◌+◌, ◌<◌, ◌≤◌, Bool, true, false, cond, ◌&&◌, ◌||◌, List, [], ◌∷◌, ◌++◌, length, get_or, Option, None, refl, sym, ap, subst, ◌∙◌, append-nil, filter, arith}
+use Rattle.std.proofs.Common.{◌≡◌, ◌⊎◌, inl, inr, ℕ, zero, suc, ◌+◌, ◌<◌, ◌≤◌, Bool, true, false, cond, not, ◌&&◌, ◌||◌, List, [], ◌∷◌, ◌++◌, length, get_or, Option, None, refl, sym, ap, subst, ◌∙◌, append-nil, filter, arith}
 use Rattle.std.specs.Prelude.{nat_lt, nat_le, ◌==◌, Contains}
 use Rattle.std.specs.List.{flat_map}
 use Rattle.std.specs.FinMap.{find}
@@ -10,7 +10,7 @@ use Rattle.std.proofs.lemmas.Bool.Decides.{nat_tests}
 use Rattle.sb_text.specs.Ranges.{put, union}
 use Rattle.sb_laws.specs.Sums.{both_sums}
 use Rattle.sb_laws.specs.Folds.{IsSplit}
-use Rattle.sb_laws.proofs.Sums.{valid_append, valid_left, valid_right}
+use Rattle.sb_laws.proofs.Sums.{valid_right}
 use Rattle.sb_laws.proofs.Positions.{ap_both, fold_same, fold_none, fold_if, fold_splits}
 use Rattle.sb_laws.proofs.Sets.{split_and, split_or}
 use Rattle.sb_feed.specs.declared.key.KeyBytes.{KeyBytes}
@@ -21,10 +21,14 @@ use Rattle.sb_feed.specs.Keys.{key_order}
 use Rattle.sb_feed.specs.Places.{batches_of, batch_at, chunk_at, is_of_shard, is_in}
 use Rattle.sb_feed.specs.Jobs.{CutLog, Dictionaries, Commute, IsLogOf, AreValid, places_of, log_values, log_fold}
 use Rattle.sb_feed.specs.Stands.{sum_at, keyed_values, AreFoldsOf, IsShardOf, IsParcelOf, AreRowsBy}
-use Rattle.sb_feed.proofs.PartSums.{sum_filter, sum_both, keyed_append, keyed_filter}
+use Rattle.sb_feed.proofs.PartSums.{sum_filter, sum_both, keyed_filter}
 use Rattle.sb_feed.proofs.LogValues.{log_values_valid}
-use Rattle.sb_shard.specs.Shards.{ShardValue, shard_sums, kept_by}
-use Rattle.sb_shard.specs.Events.{ShareNone, parts_from, flushed, AreSwept, IsInstalled}
+use Rattle.sb_offline.specs.Offlines as offline
+use Rattle.sb_offline.specs.Offlines.{OfflineValue, base_values}
+use Rattle.sb_online.specs.Onlines as online
+use Rattle.sb_online.specs.Onlines.{OnlineValue, parts_of, parts_from, without, ShareNone}
+use Rattle.sb_shard.specs.Shards.{ShardValue, shard_sums, kept_by, published_to}
+use Rattle.sb_shard.specs.Events.{IsFlushed, IsInstalled}
 
 or_again : (a b : Bool) → (a || b) ≡ (a || (a || b))
 or_again true b = refl
@@ -85,7 +89,7 @@ inwards_joined false true false u c e = refl
 inwards_joined false false b u c e = refl
 
 -- a new shard's sums are the folds of every log
-pub new_folds : {E : Type 0} (stores : ℕ) (add : ℕ → E → E → E) (log : CutLog E) (shard : ℕ) → AreFoldsOf stores add log shard (shard_sums add (record { parts = []; rows = []; cover = [] }))
+pub new_folds : {E : Type 0} (stores : ℕ) (add : ℕ → E → E → E) (log : CutLog E) (shard : ℕ) → AreFoldsOf stores add log shard (shard_sums add (record { offline = record { base = []; waiting = []; rows = []; floor = 0 }; online = record { tables = []; waiting = []; cover = [] } }))
 new_folds {E} stores add log shard = record {
   floor = omega arith;
   last = omega arith;
@@ -102,53 +106,47 @@ new_folds {E} stores add log shard = record {
     if_none true = refl
     if_none false = refl
 
--- what is kept after a flush is valid
-pub flushed_valid : {E : Type 0} (d : Dictionaries E) (parcel : Parcel E) (h : ShardValue E) → AreValid d (kept_by h) → AreValid d (keyed_values parcel.parts) → AreValid d (kept_by (flushed h parcel))
-flushed_valid d parcel h kept parts =
-    let late = parts_from (length h.rows) parcel.parts in
-    valid_append _ (keyed_values (h.parts ++ late)) (flat_map (λ rows. rows) h.rows)
-    (keyed_append d h.parts late (valid_left _ (keyed_values h.parts) (flat_map (λ rows. rows) h.rows) kept) (keyed_filter d (λ part. nat_le (length h.rows) part.batch) parcel.parts parts))
-    (valid_right _ (keyed_values h.parts) (flat_map (λ rows. rows) h.rows) kept)
-
-module _ {E : Type 0} (d : Dictionaries E) (parcel : Parcel E) (h : ShardValue E) (log : CutLog E) (shard : ℕ) (commute : Commute d) (valid : IsLogOf d log) (of : IsParcelOf d log shard parcel) (fresh : ShareNone h.cover parcel.chunks) (stands : IsShardOf d log shard (shard_sums d.add h)) where
+module _ {E : Type 0} (d : Dictionaries E) (parcel : Parcel E) (h after : ShardValue E) (flushed : IsFlushed d.add parcel h after) (log : CutLog E) (shard : ℕ) (commute : Commute d) (valid : IsLogOf d log) (of : IsParcelOf d log shard parcel) (fresh : ShareNone h.online.cover parcel.chunks) (stands : IsShardOf d log shard (shard_sums d.add h)) where
   if_both : (add : E → E → E) (t : Bool) (a b : Option E) → cond t (both_sums add a (cond t b None)) None ≡ both_sums add (cond t a None) (cond t b None)
   if_both add true a b = refl
   if_both add false a b = refl
 
-  parts_valid : AreValid d (keyed_values h.parts)
-  parts_valid = valid_left _ (keyed_values h.parts) (flat_map (λ rows. rows) h.rows) stands.valid
+  parts_valid : AreValid d (keyed_values (parts_of h.online))
+  parts_valid = valid_right _ (offline.kept_by h.offline) (keyed_values (parts_of h.online)) stands.valid
 
   flushed_online : (key : KeyBytes) (j : ℕ) → key.store < d.stores
-      → cond (nat_le (length h.rows) j) (sum_at d.add key j (h.parts ++ parts_from (length h.rows) parcel.parts)) None
-      ≡ log_fold d.add log key (λ i. is_of_shard (places_of log) shard key && (batch_at (places_of log) i == j && (nat_le (length h.rows) j && is_in (union h.cover parcel.chunks) (chunk_at (places_of log) i))))
+      → cond (nat_le (published_to h) j) (online.online_sum d.add after.online key j) None
+      ≡ log_fold d.add log key (λ i. is_of_shard (places_of log) shard key && (batch_at (places_of log) i == j && (nat_le (published_to h) j && is_in (union h.online.cover parcel.chunks) (chunk_at (places_of log) i))))
   flushed_online key j known =
-      let p = length h.rows in
+      let p = published_to h in
       let a = d.add key.store in
       let xs = log_values log key in
       let laws = commute key.store known in
       let late = parts_from p parcel.parts in
-      ap (λ x. cond (nat_le p j) x None) (sum_both d key j h.parts late laws.semigroup parts_valid (keyed_filter d (λ part. nat_le p part.batch) parcel.parts of.valid) ∙ ap (both_sums a (sum_at d.add key j h.parts)) (sum_filter d.add (λ b. nat_le p b) key j parcel.parts))
-      ∙ (if_both a (nat_le p j) (sum_at d.add key j h.parts) (sum_at d.add key j parcel.parts)
+      ap (λ x. cond (nat_le p j) x None) (flushed.sums key j ∙ (sum_both d key j (parts_of h.online) late laws.semigroup parts_valid (keyed_filter d (λ part. nat_le p part.batch) parcel.parts of.valid) ∙ ap (both_sums a (sum_at d.add key j (parts_of h.online))) (sum_filter d.add (λ b. nat_le p b) key j parcel.parts)))
+      ∙ (if_both a (nat_le p j) (sum_at d.add key j (parts_of h.online)) (sum_at d.add key j parcel.parts)
       ∙ (ap_both (both_sums a) (stands.folds.online key j known)
       (ap (λ x. cond (nat_le p j) x None) (of.sums key j known)
       ∙ (sym (fold_if a xs (nat_le p j) (λ i. is_of_shard (places_of log) shard key && (batch_at (places_of log) i == j && is_in parcel.chunks (chunk_at (places_of log) i))))
       ∙ fold_same a xs _ (λ i. is_of_shard (places_of log) shard key && (batch_at (places_of log) i == j && (nat_le p j && is_in parcel.chunks (chunk_at (places_of log) i)))) (λ i. inwards (nat_le p j) (is_of_shard (places_of log) shard key) (batch_at (places_of log) i == j) (is_in parcel.chunks (chunk_at (places_of log) i)))))
       ∙ sym (fold_splits (d.valid key.store) a laws xs _ _ _ (log_values_valid d key log valid) (λ i.
       split_and (is_of_shard (places_of log) shard key) _ _ _ (split_and (batch_at (places_of log) i == j) _ _ _ (split_and (nat_le p j) _ _ _
-      (subst (λ u. IsSplit u (is_in h.cover (chunk_at (places_of log) i)) (is_in parcel.chunks (chunk_at (places_of log) i))) (sym (in_union (chunk_at (places_of log) i) h.cover parcel.chunks))
-      (split_or (is_in h.cover (chunk_at (places_of log) i)) (is_in parcel.chunks (chunk_at (places_of log) i)) (fresh (chunk_at (places_of log) i))))))))))
+      (subst (λ u. IsSplit u (is_in h.online.cover (chunk_at (places_of log) i)) (is_in parcel.chunks (chunk_at (places_of log) i))) (sym (in_union (chunk_at (places_of log) i) h.online.cover parcel.chunks))
+      (split_or (is_in h.online.cover (chunk_at (places_of log) i)) (is_in parcel.chunks (chunk_at (places_of log) i)) (fresh (chunk_at (places_of log) i))))))))))
 
-  pub stands_flushed : IsShardOf d log shard (shard_sums d.add (flushed h parcel))
-  stands_flushed = record {
-    folds = record {
+  -- the shard stands for the log after the parcel
+  pub stands_flushed : AreValid d (kept_by after) → IsShardOf d log shard (shard_sums d.add after)
+  stands_flushed kept = record {
+    folds = subst (λ o. AreFoldsOf d.stores d.add log shard (shard_sums d.add (record { offline = o; online = after.online }))) (sym flushed.offline) (record {
       floor = stands.folds.floor;
       last = stands.folds.last;
       lag = stands.folds.lag;
       base = stands.folds.base;
       published = stands.folds.published;
-      online = flushed_online;
-    };
-    valid = flushed_valid d parcel h stands.valid of.valid;
+      online = λ key j known. flushed_online key j known ∙ fold_same (d.add key.store) (log_values log key) _ _ (λ i.
+          ap (λ cover. is_of_shard (places_of log) shard key && (batch_at (places_of log) i == j && (nat_le (published_to h) j && is_in cover (chunk_at (places_of log) i)))) (sym flushed.cover));
+    });
+    valid = kept;
   }
 
 last_place : {A : Type 0} (xs : List (List A)) (x : List A) → get_or (xs ++ x ∷ []) (length xs) [] ≡ x
@@ -166,10 +164,10 @@ no_place (y ∷ ys) zero h = absurd (omega arith)
 no_place (y ∷ ys) (suc j) h = no_place ys j (omega arith)
 
 -- the batch p, in the words of the rows and in those of the sums
-at_next : (o : Bool) (b p q : ℕ) → q ≡ p + 1 → (o && (nat_le p b && nat_lt b q)) ≡ (o && (b == p && (nat_le 0 p && nat_lt p q)))
-at_next o b p q e = cases o (nat_le p b) (nat_lt b q) (b == p) (nat_le 0 p) (nat_lt p q) refl refl refl refl refl
+at_next : (o : Bool) (b f p q : ℕ) → q ≡ p + 1 → f ≤ p → (o && (nat_le p b && nat_lt b q)) ≡ (o && (b == p && (nat_le f p && nat_lt p q)))
+at_next o b f p q e le = cases o (nat_le p b) (nat_lt b q) (b == p) (nat_le f p) (nat_lt p q) refl refl refl refl refl
   where
-    cases : (o k l m n r : Bool) → nat_le p b ≡ k → nat_lt b q ≡ l → (b == p) ≡ m → nat_le 0 p ≡ n → nat_lt p q ≡ r → (o && (k && l)) ≡ (o && (m && (n && r)))
+    cases : (o k l m n r : Bool) → nat_le p b ≡ k → nat_lt b q ≡ l → (b == p) ≡ m → nat_le f p ≡ n → nat_lt p q ≡ r → (o && (k && l)) ≡ (o && (m && (n && r)))
     cases false k l m n r x y z u v = refl
     cases true k l m n r x y z u v = grind (arith, nat_tests)
 
@@ -181,73 +179,93 @@ joined_later p q j e = cases (nat_le q j) (nat_le p j) refl refl
     cases true false x y = absurd (grind (arith, nat_tests))
     cases false u x y = refl
 
-if_twice : {A : Type 0} (t : Bool) (a : Option A) → cond t (cond t a None) None ≡ cond t a None
-if_twice true a = refl
-if_twice false a = refl
+-- from the batch behind b on, b isn't looked at
+if_later : {A : Type 0} (b q j : ℕ) (a : Option A) → q ≡ b + 1 → cond (nat_le q j) (cond (not (j == b)) a None) None ≡ cond (nat_le q j) a None
+if_later b q j a e = cases (nat_le q j) refl (j == b) refl
+  where
+    cases : (t : Bool) → nat_le q j ≡ t → (u : Bool) → (j == b) ≡ u → cond t (cond (not u) a None) None ≡ cond t a None
+    cases true x true y = absurd (grind (arith, nat_tests))
+    cases true x false y = refl
+    cases false x u y = refl
 
 if_and : {A : Type 0} (t u : Bool) (a : Option A) → (t && u) ≡ t → cond t a None ≡ cond t (cond u a None) None
 if_and true true a e = refl
 if_and true false a e = cc
 if_and false u a e = refl
 
-module _ {E : Type 0} (next : Rows E) (before after : ShardValue E) (installed : IsInstalled next before after) (stores : ℕ) (add : ℕ → E → E → E) (log : CutLog E) (shard : ℕ) (from : next.from ≡ length before.rows) (to : next.to ≡ length before.rows + 1) (rows : AreRowsBy stores add log shard next) (below : length before.rows < batches_of (places_of log)) (folds : AreFoldsOf stores add log shard (shard_sums add before)) where
-  grown : length after.rows ≡ length before.rows + 1
-  grown = ap length installed.rows ∙ length-append before.rows (next.rows ∷ [])
+module _ {E : Type 0} (next : Rows E) (before after : ShardValue E) (installed : IsInstalled next before after) (stores : ℕ) (add : ℕ → E → E → E) (log : CutLog E) (shard : ℕ) (from : next.from ≡ published_to before) (to : next.to ≡ published_to before + 1) (rows : AreRowsBy stores add log shard next) (below : published_to before < batches_of (places_of log)) (folds : AreFoldsOf stores add log shard (shard_sums add before)) where
+  lists : after.offline.rows ≡ before.offline.rows ++ next.rows ∷ []
+  lists = ap (λ o. o.rows) installed.offline
 
-  installed_published : (key : KeyBytes) (j : ℕ) → key.store < stores → (order : Bool) (same : Bool) → nat_lt j (length before.rows) ≡ order → (j == length before.rows) ≡ same
-      → find key_order key (get_or after.rows j []) ≡ log_fold add log key (λ i. is_of_shard (places_of log) shard key && (batch_at (places_of log) i == j && (nat_le 0 j && nat_lt j (length after.rows))))
+  floors : after.offline.floor ≡ before.offline.floor
+  floors = ap (λ o. o.floor) installed.offline
+
+  grown : published_to after ≡ published_to before + 1
+  grown = ap length lists ∙ length-append before.offline.rows (next.rows ∷ [])
+
+  installed_published : (key : KeyBytes) (j : ℕ) → key.store < stores → (order : Bool) (same : Bool) → nat_lt j (published_to before) ≡ order → (j == published_to before) ≡ same
+      → find key_order key (get_or after.offline.rows j []) ≡ log_fold add log key (λ i. is_of_shard (places_of log) shard key && (batch_at (places_of log) i == j && (nat_le before.offline.floor j && nat_lt j (published_to after))))
   installed_published key j known true same e f =
-      ap (find key_order key) (ap (λ lists. get_or lists j []) installed.rows ∙ earlier_place before.rows next.rows j (grind (arith, nat_tests)))
+      ap (find key_order key) (ap (λ l. get_or l j []) lists ∙ earlier_place before.offline.rows next.rows j (grind (arith, nat_tests)))
       ∙ (folds.published key j known
-      ∙ fold_same (add key.store) (log_values log key) _ _ (λ i. ap (λ t. is_of_shard (places_of log) shard key && (batch_at (places_of log) i == j && (nat_le 0 j && t))) (e ∙ sym later)))
+      ∙ fold_same (add key.store) (log_values log key) _ _ (λ i. ap (λ t. is_of_shard (places_of log) shard key && (batch_at (places_of log) i == j && (nat_le before.offline.floor j && t))) (e ∙ sym later)))
     where
-      later : nat_lt j (length after.rows) ≡ true
+      later : nat_lt j (published_to after) ≡ true
       later = grind (arith, nat_tests, grown)
   installed_published key j known false true e f =
-      let is : j ≡ length before.rows = grind (arith, nat_tests) in
-      ap (find key_order key) (ap (λ lists. get_or lists j []) installed.rows ∙ (ap (λ n. get_or (before.rows ++ next.rows ∷ []) n []) is ∙ last_place before.rows next.rows))
+      let p = published_to before in
+      let q = published_to after in
+      let is : j ≡ p = grind (arith, nat_tests) in
+      ap (find key_order key) (ap (λ l. get_or l j []) lists ∙ (ap (λ n. get_or (before.offline.rows ++ next.rows ∷ []) n []) is ∙ last_place before.offline.rows next.rows))
       ∙ (rows key known
       ∙ fold_same (add key.store) (log_values log key) _ _ (λ i.
       ap (λ n. is_of_shard (places_of log) shard key && (nat_le n (batch_at (places_of log) i) && nat_lt (batch_at (places_of log) i) next.to)) from
-      ∙ (ap (λ n. is_of_shard (places_of log) shard key && (nat_le (length before.rows) (batch_at (places_of log) i) && nat_lt (batch_at (places_of log) i) n)) (to ∙ sym grown)
-      ∙ (at_next (is_of_shard (places_of log) shard key) (batch_at (places_of log) i) (length before.rows) (length after.rows) grown
-      ∙ ap (λ n. is_of_shard (places_of log) shard key && (batch_at (places_of log) i == n && (nat_le 0 n && nat_lt n (length after.rows)))) (sym is)))))
+      ∙ (ap (λ n. is_of_shard (places_of log) shard key && (nat_le p (batch_at (places_of log) i) && nat_lt (batch_at (places_of log) i) n)) (to ∙ sym grown)
+      ∙ (at_next (is_of_shard (places_of log) shard key) (batch_at (places_of log) i) before.offline.floor p q grown folds.floor
+      ∙ ap (λ n. is_of_shard (places_of log) shard key && (batch_at (places_of log) i == n && (nat_le before.offline.floor n && nat_lt n q))) (sym is)))))
   installed_published key j known false false e f =
-      ap (find key_order key) (no_place after.rows j (grind (arith, nat_tests, grown)))
-      ∙ sym (fold_none (add key.store) (log_values log key) _ (λ i. ap (λ t. is_of_shard (places_of log) shard key && (batch_at (places_of log) i == j && (nat_le 0 j && t))) beyond ∙ no_four (is_of_shard (places_of log) shard key) (batch_at (places_of log) i == j) (nat_le 0 j)))
+      ap (find key_order key) (no_place after.offline.rows j (grind (arith, nat_tests, grown)))
+      ∙ sym (fold_none (add key.store) (log_values log key) _ (λ i. ap (λ t. is_of_shard (places_of log) shard key && (batch_at (places_of log) i == j && (nat_le before.offline.floor j && t))) beyond ∙ no_four (is_of_shard (places_of log) shard key) (batch_at (places_of log) i == j) (nat_le before.offline.floor j)))
     where
-      beyond : nat_lt j (length after.rows) ≡ false
+      beyond : nat_lt j (published_to after) ≡ false
       beyond = grind (arith, nat_tests, grown)
 
-  swept_sum : (key : KeyBytes) (j : ℕ) → AreSwept (length after.rows) before.parts after.parts
-      → cond (nat_le (length after.rows) j) (sum_at add key j after.parts) None ≡ cond (nat_le (length after.rows) j) (sum_at add key j before.parts) None
-  swept_sum key j (inl e) = ap (λ parts. cond (nat_le (length after.rows) j) (sum_at add key j parts) None) e
-  swept_sum key j (inr e) =
-      ap (λ parts. cond (nat_le (length after.rows) j) (sum_at add key j parts) None) e
-      ∙ (ap (λ x. cond (nat_le (length after.rows) j) x None) (sum_filter add (λ b. nat_le (length after.rows) b) key j before.parts)
-      ∙ if_twice (nat_le (length after.rows) j) (sum_at add key j before.parts))
+  swept_sum : (key : KeyBytes) (j : ℕ) → cond (nat_le (published_to after) j) (online.online_sum add after.online key j) None ≡ cond (nat_le (published_to after) j) (online.online_sum add before.online key j) None
+  swept_sum key j =
+      ap (λ x. cond (nat_le (published_to after) j) x None) (ap (sum_at add key j) installed.online ∙ sum_filter add (λ b. not (b == published_to before)) key j (parts_of before.online))
+      ∙ if_later (published_to before) (published_to after) j (online.online_sum add before.online key j) grown
 
   installed_online : (key : KeyBytes) (j : ℕ) → key.store < stores
-      → cond (nat_le (length after.rows) j) (sum_at add key j after.parts) None ≡ log_fold add log key (λ i. is_of_shard (places_of log) shard key && (batch_at (places_of log) i == j && (nat_le (length after.rows) j && is_in after.cover (chunk_at (places_of log) i))))
+      → cond (nat_le (published_to after) j) (online.online_sum add after.online key j) None ≡ log_fold add log key (λ i. is_of_shard (places_of log) shard key && (batch_at (places_of log) i == j && (nat_le (published_to after) j && is_in after.online.cover (chunk_at (places_of log) i))))
   installed_online key j known =
-      let q = length after.rows in
+      let p = published_to before in
+      let q = published_to after in
       let a = add key.store in
       let xs = log_values log key in
-      let and = joined_later (length before.rows) q j grown in
-      swept_sum key j installed.parts
-      ∙ (if_and (nat_le q j) (nat_le (length before.rows) j) (sum_at add key j before.parts) and
+      let and = joined_later p q j grown in
+      swept_sum key j
+      ∙ (if_and (nat_le q j) (nat_le p j) (online.online_sum add before.online key j) and
       ∙ (ap (λ x. cond (nat_le q j) x None) (folds.online key j known)
-      ∙ (sym (fold_if a xs (nat_le q j) (λ i. is_of_shard (places_of log) shard key && (batch_at (places_of log) i == j && (nat_le (length before.rows) j && is_in before.cover (chunk_at (places_of log) i)))))
-      ∙ fold_same a xs _ _ (λ i. inwards_joined (nat_le q j) (is_of_shard (places_of log) shard key) (batch_at (places_of log) i == j) (nat_le (length before.rows) j) (is_in before.cover (chunk_at (places_of log) i)) and
+      ∙ (sym (fold_if a xs (nat_le q j) (λ i. is_of_shard (places_of log) shard key && (batch_at (places_of log) i == j && (nat_le p j && is_in before.online.cover (chunk_at (places_of log) i)))))
+      ∙ fold_same a xs _ _ (λ i. inwards_joined (nat_le q j) (is_of_shard (places_of log) shard key) (batch_at (places_of log) i == j) (nat_le p j) (is_in before.online.cover (chunk_at (places_of log) i)) and
       ∙ ap (λ cover. is_of_shard (places_of log) shard key && (batch_at (places_of log) i == j && (nat_le q j && is_in cover (chunk_at (places_of log) i)))) (sym installed.cover)))))
+
+  lag_kept : (before.offline.floor ≡ 0) ⊎ (before.offline.floor + log.lag ≤ published_to before) → (after.offline.floor ≡ 0) ⊎ (after.offline.floor + log.lag ≤ published_to after)
+  lag_kept (inl e) = inl (floors ∙ e)
+  lag_kept (inr h) = inr (omega (arith, h, floors, grown))
 
   pub folds_installed : AreFoldsOf stores add log shard (shard_sums add after)
   folds_installed = record {
-    floor = omega arith;
+    floor = omega (arith, folds.floor, floors, grown);
     last = omega (arith, below, grown);
-    lag = inl refl;
-    base = folds.base;
-    published = λ key j known. installed_published key j known _ _ refl refl;
+    lag = lag_kept folds.lag;
+    base = λ key known.
+        ap (λ o. offline.base_sum add o key) installed.offline
+        ∙ (folds.base key known
+        ∙ fold_same (add key.store) (log_values log key) _ _ (λ i. ap (λ n. is_of_shard (places_of log) shard key && nat_lt (batch_at (places_of log) i) n) (sym floors)));
+    published = λ key j known.
+        installed_published key j known _ _ refl refl
+        ∙ fold_same (add key.store) (log_values log key) _ _ (λ i. ap (λ n. is_of_shard (places_of log) shard key && (batch_at (places_of log) i == j && (nat_le n j && nat_lt j (published_to after)))) (sym floors));
     online = installed_online;
   }
 
@@ -267,23 +285,22 @@ elements_left s (x ∷ xs) row h =
     ] h
 
 module _ {E : Type 0} (next : Rows E) (before after : ShardValue E) (installed : IsInstalled next before after) (row : KeyBytes × E) where
-  rows_grown : flat_map (λ rows. rows) after.rows ≡ flat_map (λ rows. rows) before.rows ++ next.rows
-  rows_grown =
-      ap (flat_map (λ rows. rows)) installed.rows
-      ∙ (flat_map-append (λ rows. rows) before.rows (next.rows ∷ []) ∙ ap (λ l. flat_map (λ rows. rows) before.rows ++ l) (append-nil next.rows))
-
-  parts_left : AreSwept (length after.rows) before.parts after.parts → Contains (keyed_values after.parts) row → Contains (keyed_values before.parts) row
-  parts_left (inl e) h = subst (λ parts. Contains (keyed_values parts) row) e h
-  parts_left (inr e) h = elements_left (λ part. nat_le (length after.rows) part.batch) before.parts row (subst (λ parts. Contains (keyed_values parts) row) e h)
-
-  rows_left : Contains (flat_map (λ rows. rows) before.rows) row ⊎ Contains next.rows row → Contains (kept_by before) row ⊎ Contains next.rows row
-  rows_left (inl h) = inl (Contains-append_right (keyed_values before.parts) (flat_map (λ rows. rows) before.rows) row h)
+  rows_left : Contains (flat_map (λ rows. rows) before.offline.rows) row ⊎ Contains next.rows row → Contains (kept_by before) row ⊎ Contains next.rows row
+  rows_left (inl h) = inl (Contains-append_left (offline.kept_by before.offline) (keyed_values (parts_of before.online)) row (Contains-append_right (base_values before.offline) (flat_map (λ rows. rows) before.offline.rows) row h))
   rows_left (inr h) = inr h
 
-  kept_cases : Contains (keyed_values after.parts) row ⊎ Contains (flat_map (λ rows. rows) after.rows) row → Contains (kept_by before) row ⊎ Contains next.rows row
-  kept_cases (inl h) = inl (Contains-append_left (keyed_values before.parts) (flat_map (λ rows. rows) before.rows) row (parts_left installed.parts h))
-  kept_cases (inr h) = rows_left (Contains-append_cases (flat_map (λ rows. rows) before.rows) next.rows row (subst (λ l. Contains l row) rows_grown h))
+  rows_grown : flat_map (λ rows. rows) (before.offline.rows ++ next.rows ∷ []) ≡ flat_map (λ rows. rows) before.offline.rows ++ next.rows
+  rows_grown = flat_map-append (λ rows. rows) before.offline.rows (next.rows ∷ []) ∙ ap (λ l. flat_map (λ rows. rows) before.offline.rows ++ l) (append-nil next.rows)
+
+  offline_cases : Contains (base_values before.offline) row ⊎ Contains (flat_map (λ rows. rows) (before.offline.rows ++ next.rows ∷ [])) row → Contains (kept_by before) row ⊎ Contains next.rows row
+  offline_cases (inl h) = inl (Contains-append_left (offline.kept_by before.offline) (keyed_values (parts_of before.online)) row (Contains-append_left (base_values before.offline) (flat_map (λ rows. rows) before.offline.rows) row h))
+  offline_cases (inr h) = rows_left (Contains-append_cases (flat_map (λ rows. rows) before.offline.rows) next.rows row (subst (λ l. Contains l row) rows_grown h))
+
+  kept_cases : Contains (offline.kept_by after.offline) row ⊎ Contains (keyed_values (parts_of after.online)) row → Contains (kept_by before) row ⊎ Contains next.rows row
+  kept_cases (inl h) = offline_cases (Contains-append_cases (base_values before.offline) (flat_map (λ rows. rows) (before.offline.rows ++ next.rows ∷ [])) row (subst (λ o. Contains (offline.kept_by o) row) installed.offline h))
+  kept_cases (inr h) = inl (Contains-append_right (offline.kept_by before.offline) (keyed_values (parts_of before.online)) row
+      (elements_left (λ part. not (part.batch == published_to before)) (parts_of before.online) row (subst (λ parts. Contains (keyed_values parts) row) installed.online h)))
 
   -- what is kept after an installation was kept before or came with it
   pub keeps_only : Contains (kept_by after) row → Contains (kept_by before) row ⊎ Contains next.rows row
-  keeps_only h = kept_cases (Contains-append_cases (keyed_values after.parts) (flat_map (λ rows. rows) after.rows) row h)
+  keeps_only h = kept_cases (Contains-append_cases (offline.kept_by after.offline) (keyed_values (parts_of after.online)) row h)

@@ -1,9 +1,7 @@
-pub mod Placing
-pub mod BatchSums
 pub mod Events
-pub mod Asked
-pub mod KeySets
 pub mod HeldKeys
 pub mod Merged
+pub mod Expired
 pub mod Drained
 pub mod Kept
+pub mod Outcomes

@@ -19,7 +19,8 @@ use Rattle.sb_feed.specs.Jobs.{CutLog, Dictionaries, Commute, IsLogOf, places_of
 use Rattle.sb_feed.specs.Stands.{ShardSums, IsShardOf, HasSums}
 use Rattle.sb_feed.proofs.LogValues.{log_values_valid}
 use Rattle.sb_shard.specs.declared.answer.Answer.{Answer}
-use Rattle.sb_shard.specs.Asks.{AnswersOf, one_or_none, values_of}
+use Rattle.sb_job.specs.ByBatch.{one_or_none}
+use Rattle.sb_shard.specs.Asks.{AnswersOf, values_of}
 
 is_below : (m n : ℕ) → T (is_lt (nat_cmp m n)) → m < n
 is_below m n h = tested (nat_lt m n) (m == n) refl refl h

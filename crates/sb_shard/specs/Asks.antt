@@ -1,5 +1,5 @@
 -- What a shard answers.
-use Rattle.std.specs.Prelude.{◌≡◌, ◌⊎◌, ◌↔◌, ℕ, ◌<◌, true, ◌&&◌, List, [], ◌∷◌, ◌++◌, map, length, Option, Some, None, IsSome, IsTrue}
+use Rattle.std.specs.Prelude.{◌≡◌, ◌⊎◌, ◌↔◌, ℕ, ◌<◌, true, ◌&&◌, List, ◌++◌, map, length, IsSome, IsTrue}
 use Rattle.std.specs.List.{list_any}
 use Rattle.std.specs.FinMap.{find}
 use Rattle.std.specs.List.Sorted.{IsStrictlySortedBy}
@@ -10,6 +10,7 @@ use Rattle.sb_feed.specs.Places.{is_of_shard, is_named}
 use Rattle.sb_feed.specs.Jobs.{Job, Dictionaries, IsFamilyOf, IsCommuting, meaning_of, places_of, job_fold, AreValid}
 use Rattle.sb_feed.specs.Stands.{ShardSums, StandsFor, HasSums}
 use Rattle.sb_laws.specs.Sums.{sum_of}
+pub use Rattle.sb_job.specs.ByBatch.{one_or_none}
 use Rattle.sb_shard.specs.Shards.{ShardValue, shard_sums, published_to, cover_of}
 use Rattle.sb_shard.specs.declared.answer.Answer.{Answer}
 
@@ -25,10 +26,6 @@ pub record AnswersOf {E : Type 0} (V : E → Type 0) (s : ShardSums E) (key : Ke
 -- what the shard answers, by these dictionaries
 abbrev pub Answers : {E : Type 0} → Dictionaries E → ShardValue E → KeyBytes → ℕ → Answer E → Type 0
 Answers d held key upto = AnswersOf (d.valid key.store) (shard_sums d.add held) key upto
-
-abbrev pub one_or_none : {E : Type 0} → Option E → List E
-one_or_none None = []
-one_or_none (Some value) = value ∷ []
 
 -- the values that are answered: the base, and those of published and of online batches
 abbrev pub values_of : {E : Type 0} → Answer E → List E

@@ -1,18 +1,16 @@
--- What a flush and an installation keep of what a shard stands for.
-use Rattle.std.specs.Prelude.{◌≡◌, ◌⊎◌, ℕ, ◌<◌, Bool, false, ◌&&◌, nat_le, List, [], ◌∷◌, ◌++◌, filter, Contains}
+-- What a flush, an installation and an expiry keep of what a shard stands for.
+use Rattle.std.specs.Prelude.{◌≡◌, ◌⊎◌, ℕ, ◌+◌, ◌<◌, ◌≤◌, List, [], ◌∷◌, ◌++◌, Contains}
 use Rattle.sb_text.specs.Ranges.{union}
-use Rattle.sb_feed.specs.declared.parts.Part.{Part}
 use Rattle.sb_feed.specs.declared.key.KeyBytes.{KeyBytes}
 use Rattle.sb_feed.specs.declared.parts.Parcel.{Parcel}
 use Rattle.sb_feed.specs.declared.rows.Rows.{Rows}
-use Rattle.sb_feed.specs.Places.{batches_of, is_in}
+use Rattle.sb_feed.specs.Places.{batches_of}
 use Rattle.sb_feed.specs.Jobs.{CutLog, Job, IsFamilyOf, IsCommuting, meaning_of, places_of}
-use Rattle.sb_feed.specs.Stands.{AreFoldsOf, IsParcelOf, AreRowsBy, StandsFor}
+use Rattle.sb_feed.specs.Stands.{AreFoldsOf, IsParcelOf, AreRowsBy, StandsFor, sum_at}
+use Rattle.sb_offline.specs.Expiries.{IsExpired}
+use Rattle.sb_online.specs.Onlines as online
+use Rattle.sb_online.specs.Onlines.{parts_of, parts_from, without}
 use Rattle.sb_shard.specs.Shards.{ShardValue, shard_sums, published_to, kept_by}
-
--- no number is in both
-abbrev pub ShareNone : List ℕ → List ℕ → Type 0
-ShareNone xs ys = (n : ℕ) → (is_in xs n && is_in ys n) ≡ false
 
 -- whatever commuting job of these dictionaries the shard stood for, it stands for it after a parcel of it
 abbrev pub FlushKeeps : {M E : Type 0} → (M → E → Type 0) → (M → E → E → E) → List M → Parcel E → ShardValue E → ShardValue E → Type 0
@@ -31,20 +29,31 @@ InstallKeeps {E} rows before after =
 abbrev pub KeepsOnly : {E : Type 0} → Rows E → ShardValue E → ShardValue E → Type 0
 KeepsOnly {E} rows before after = (row : KeyBytes × E) → Contains (kept_by after) row → Contains (kept_by before) row ⊎ Contains rows.rows row
 
--- the parts of the batches from one on
-abbrev pub parts_from : {E : Type 0} → ℕ → List (Part E) → List (Part E)
-parts_from p parts = filter (λ part. nat_le p part.batch) parts
+-- a floor that may be asked for: there is no lag, or nothing expires, or the lag is kept
+abbrev pub MayExpire : ℕ → ℕ → ℕ → Type 0
+MayExpire lag asked published = (lag ≡ 0) ⊎ ((asked ≡ 0) ⊎ (asked + lag ≤ published))
 
--- what is kept after a flush
-abbrev pub flushed : {E : Type 0} → ShardValue E → Parcel E → ShardValue E
-flushed held parcel = record held { parts = held.parts ++ parts_from (published_to held) parcel.parts; cover = union held.cover parcel.chunks }
+-- whatever commuting job of these dictionaries the shard stood for, it stands for it after an expiry that the job's lag admits
+abbrev pub ExpireKeeps : {M E : Type 0} → (M → E → Type 0) → (M → E → E → E) → List M → ℕ → ShardValue E → ShardValue E → Type 0
+ExpireKeeps {M} {E} valid add monoids asked before after =
+    (job : Job M E) (shard : ℕ) → IsFamilyOf monoids job → IsCommuting valid add job → MayExpire job.log.lag asked (published_to before)
+    → StandsFor valid add job shard (shard_sums (meaning_of valid add job).add before)
+    → StandsFor valid add job shard (shard_sums (meaning_of valid add job).add after)
 
--- the parts are as before, or without those of the batches below p
-abbrev pub AreSwept : {E : Type 0} → ℕ → List (Part E) → List (Part E) → Type 0
-AreSwept p before after = (after ≡ before) ⊎ (after ≡ parts_from p before)
+-- the online sums have the parcel's parts of batches that aren't published in addition
+pub record IsFlushed {E : Type 0} (add : ℕ → E → E → E) (parcel : Parcel E) (before after : ShardValue E) : Type 0 where
+  pub offline : after.offline ≡ before.offline
+  pub cover : after.online.cover ≡ union before.online.cover parcel.chunks
+  pub sums : (key : KeyBytes) (j : ℕ) → online.online_sum add after.online key j ≡ sum_at add key j (parts_of before.online ++ parts_from (published_to before) parcel.parts)
 
--- what is kept after an installation
+-- the rows of the next batch are published, and its online parts are gone
 pub record IsInstalled {E : Type 0} (next : Rows E) (before after : ShardValue E) : Type 0 where
-  pub rows : after.rows ≡ before.rows ++ next.rows ∷ []
-  pub parts : AreSwept (published_to after) before.parts after.parts
-  pub cover : after.cover ≡ before.cover
+  pub offline : after.offline ≡ record before.offline { rows = before.offline.rows ++ next.rows ∷ [] }
+  pub online : parts_of after.online ≡ without (published_to before) (parts_of before.online)
+  pub cover : after.online.cover ≡ before.online.cover
+
+-- the floor of the offline store is raised
+pub record IsOnlyExpired {E : Type 0} (add : ℕ → E → E → E) (asked : ℕ) (before after : ShardValue E) : Type 0 where
+  pub within : asked ≤ published_to before
+  pub offline : IsExpired add asked before.offline after.offline
+  pub online : after.online ≡ before.online

@@ -1,4 +1,3 @@
 pub mod Shards
 pub mod Events
 pub mod Asks
-pub mod ByBatch

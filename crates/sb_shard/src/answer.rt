@@ -4,7 +4,7 @@ use sb_laws::NoMemory;
 use sb_text::Ranges;
 use thiserror::Error;
 
-/// What a shard holds of a key: its base, and one sum a batch. The base has the batches below the floor.
+/// What a shard holds of a key: its base, which has the batches below the floor, and one sum a batch.
 #[derive(Drop)]
 pub struct Answer<E> {
     pub base: Option<E>,
@@ -18,6 +18,9 @@ pub struct Answer<E> {
 /// Why a shard gives no answer.
 #[derive(Clone, Copy, Debug, PartialEq, Eq, Error)]
 pub enum AskError {
+    /// The base has the sums of later batches than the asked one already.
+    #[error("batch {asked} is expired: the floor is {floor}")]
+    Expired { asked: u64, floor: u64 },
     #[error("out of memory")]
     NoMemory,
 }

@@ -1,41 +1,41 @@
-use Rattle.std.proofs.Common.{◌≡◌, ◌∙◌, ◌++◌, [], refl, ap, sym, subst, length, rules}
-use Rattle.std.specs.List.{flat_map}
+use Rattle.std.proofs.Common.{◌≡◌, ◌++◌, sym, subst, ◌∙◌, rules}
 use Rattle.sb_laws.proofs.Sums.{valid_left, valid_right}
-use Rattle.sb_feed.specs.Jobs.{AreValid, meant}
+use Rattle.sb_offline.specs.Offlines as offline
+use Rattle.sb_online.specs.Onlines as online
+use Rattle.sb_feed.specs.Jobs.{meant, AreValid}
 use Rattle.sb_feed.specs.Stands.{keyed_values}
-use Rattle.sb_feed.proofs.PartSums.{keyed_filter}
 use Rattle.sb_job.specs.Sums.{HasKeySums}
 use Rattle.sb_job.proofs.Growing.{permuted_valid}
+use Rattle.sb_online.specs.Onlines.{parts_of, parts_from}
 use Rattle.sb_shard.specs.Shards.{ShardValue, kept_by}
-use Rattle.sb_shard.specs.Events.{parts_from}
 use Rattle.sb_shard.specs.Asks.{Drains}
 use Rattle.sb_shard.proofs.Drained.{drained}
+use Rattle.sb_shard.proofs.Outcomes.{if_both}
 use Rattle.sb_shard.proofs.shard.Shard.into_rows.Goals as goal
 
-pub add_lists-requires-clause-lists : goal.add_lists-requires-clause-lists
-add_lists-requires-clause-lists g c =
+pub into_sums-requires : goal.into_sums-requires
+into_sums-requires g c =
     let d = meant g.F.M.Semigroup.valid g.F.M.Semigroup.add (g.F.Family.monoids c.args.family.now) in
-    let kept = subst (λ held. AreValid d (kept_by held)) (sym c.self.view_is) c.requires.kept in
-    valid_right _ (keyed_values c.self.inside.parts.items) (flat_map (λ rows. rows) c.self.inside.rows.items) kept
+    let kept : AreValid d (offline.kept_by c.self.inside.offline ++ online.kept_by c.self.inside.online) = subst (λ held. AreValid d (kept_by held)) (sym c.self.view_is) c.requires.kept in
+    record { kept = valid_left _ (offline.kept_by c.self.inside.offline) (online.kept_by c.self.inside.online) kept }
 
-pub add_parts-requires-clause-parts : goal.add_parts-requires-clause-parts
-add_parts-requires-clause-parts g c =
+pub add_to-requires-clause-kept : goal.add_to-requires-clause-kept
+add_to-requires-clause-kept g c =
     let d = meant g.F.M.Semigroup.valid g.F.M.Semigroup.add (g.F.Family.monoids c.args.family.now) in
-    let kept = subst (λ held. AreValid d (kept_by held)) (sym c.self.view_is) c.requires.kept in
-    let parts = c.self.inside.parts.items in
-    rw c.keep_from.ensures (keyed_filter d _ parts (valid_left _ (keyed_values parts) (flat_map (λ rows. rows) c.self.inside.rows.items) kept))
+    let kept : AreValid d (offline.kept_by c.self.inside.offline ++ online.kept_by c.self.inside.online) = subst (λ held. AreValid d (kept_by held)) (sym c.self.view_is) c.requires.kept in
+    valid_right _ (offline.kept_by c.self.inside.offline) (online.kept_by c.self.inside.online) kept
 
 pub returns : goal.returns
 returns g c =
     let d = meant g.F.M.Semigroup.valid g.F.M.Semigroup.add (g.F.Family.monoids c.args.family.now) in
-    let inside = c.self.inside in
-    let held : ShardValue g.row.E.Denot = record { parts = inside.parts.items; rows = inside.rows.items; cover = inside.cover } in
-    let kept = subst (λ held. AreValid d (kept_by held)) (sym c.self.view_is) c.requires.kept in
-    let count : c.len.result ≡ length inside.rows.items = search rules in
-    let late : c.keep_from.new.parts.items ≡ parts_from (length inside.rows.items) inside.parts.items = c.keep_from.ensures ∙ ap (λ n. parts_from n inside.parts.items) count in
-    let lists = flat_map (λ rows. rows) inside.rows.items in
-    let added = c.in_ok-add_lists.ensures.sums [] (subst (HasKeySums d []) (sym c.new-sums.ensures) (λ key. refl)) in
-    let summed = subst (λ parts. HasKeySums d (lists ++ keyed_values parts) c.add_parts.new.self) late (c.in_ok-add_parts.ensures.sums lists added) in
-    subst (λ held. Drains g.F.M.Semigroup.valid g.F.M.Semigroup.add (g.F.Family.monoids c.args.family.now) held c.in_ok-rows.rows) c.self.view_is
-    (drained g.F.M.Semigroup.valid g.F.M.Semigroup.add (g.F.Family.monoids c.args.family.now) held c.in_ok-rows.rows kept c.in_ok-add_lists.ensures.rising (permuted_valid d _ _ c.in_ok-rows.ensures.same c.add_parts.ensures.valid)
-    (λ key. c.in_ok-rows.ensures.found key ∙ summed key))
+    let V = g.F.M.Semigroup.valid in
+    let A = g.F.M.Semigroup.add in
+    let ms = g.F.Family.monoids c.args.family.now in
+    let h = c.self.inside in
+    let held : ShardValue g.row.E.Denot = record { offline = h.offline; online = h.online } in
+    let kept : AreValid d (kept_by held) = subst (λ held. AreValid d (kept_by held)) (sym c.self.view_is) c.requires.kept in
+    let count : c.published-from.result ≡ offline.published_to h.offline = search rules in
+    let summed = subst (λ n. HasKeySums d (offline.kept_by h.offline ++ keyed_values (parts_from n (parts_of h.online))) c.add_to.new.sums) count (c.in_ok-add_to.ensures.sums (offline.kept_by h.offline) c.in_ok-sums.ensures.sums) in
+    if_both c.into_rows.result c.into_rows.ensures.same c.into_rows.ensures.found (λ rows same found.
+    subst (λ held. Drains V A ms held rows) c.self.view_is
+    (drained V A ms held rows kept c.in_ok-sums.ensures.rising (permuted_valid d _ _ same c.in_ok-add_to.ensures.valid) (λ key. found key ∙ summed key)))
