@@ -1,10 +1,11 @@
 //! What a run writes: a line for each ask, and then the report.
-ghost use Rattle.std.specs.Prelude.{◌≡◌, ◌<◌, ◌++◌, [], ◌∷◌, length, IsTrue, IfOk, OnOk};
+ghost use Rattle.std.specs.Prelude.{◌≡◌, ◌<◌, ◌≤◌, ◌+◌, ◌++◌, ℕ, [], ◌∷◌, length, IsTrue, IfOk, OnOk};
 ghost use Rattle.std.specs.FinMap.{is_sorted};
 ghost use Rattle.std.specs.List.{AllByRecursion, flat_map};
 ghost use Rattle.sb_check.specs.CheckedView.{checked_of};
 ghost use Rattle.sb_feed.specs.Jobs.{AreValid};
 ghost use Rattle.sb_feed.specs.Keys.{key_order};
+ghost use Rattle.sb_feed.specs.Places.{Places};
 ghost use Rattle.sb_io.specs.Sink.{Appends, HasSinkCause};
 ghost use Rattle.sb_kind.specs.ElementText.{element_text};
 ghost use Rattle.sb_kind.specs.declared.agg.Agg.{Agg};
@@ -14,8 +15,8 @@ ghost use Rattle.sb_report.specs.Transcript.{line_text, store_name, NamesStore};
 ghost use Rattle.sb_report.specs.declared.script.Ask.TheVariants as ask;
 ghost use Rattle.sb_run.specs.Answering.{progress, online, runner_row, IsOverFeed, Serves};
 ghost use Rattle.sb_run.specs.Run.{Run, good_value, report_text};
-ghost use Rattle.sb_run.specs.ScriptOutput.{after, answer_line, cover_at, floor_after, lines_text, script_lines, run_text};
-ghost use Rattle.sb_session.specs.Sessions.{published_by, with_floor};
+ghost use Rattle.sb_run.specs.ScriptOutput.{after, answer_line, cover_at, lines_text, script_lines, run_text};
+ghost use Rattle.sb_session.specs.Sessions.{published_by, floor_by};
 
 use sb_check::Checked;
 use sb_feed::{Cut, KeyBytes, RowList};
@@ -133,7 +134,7 @@ fn answer(
         }),
         Ask::Work { most } => work(alloc, c, feed, session, most),
         Ask::Publish { upto } => publish(alloc, c, feed, session, upto),
-        Ask::Expire { floor } => Ok(expire(session, floor)),
+        Ask::Expire { floor } => expire(alloc, feed, session, floor),
     }
 }
 
@@ -217,6 +218,7 @@ fn value_at(
     requires serves { Serves (checked_of c.now) feed.now session.now.cut run }
     requires over { IsOverFeed feed.now session.now }
     requires store { key.now.store < length (checked_of c.now).declared.stores }
+    requires open { floor_by session.now ≤ upto + 1 }
     ensures value { IfOk result (λ read. read.0 ≡ good_value run key.now.store upto key.now.text
         (published_by session.now) (cover_at (progress session.now))) }
     ensures cover { IfOk result (λ read. read.1 ≡ cover_at (progress session.now)) }
@@ -299,21 +301,30 @@ fn publish(
     })
 }
 
-fn expire(session: &mut Session<Agg>, floor: u64) -> TranscriptLine
-    ensures line { (run : Run Agg) → result
-        ≡ answer_line run (progress session.old) (ask.Expire floor) }
-    ensures session { session.new ≡ with_floor session.old
-        (floor_after (progress session.old) floor) }
+fn expire(
+    alloc: Global,
+    feed: &OnlineRunner,
+    session: &mut Session<Agg>,
+    floor: u64,
+) -> Result<TranscriptLine, NoMemory>
+    requires over { IsOverFeed feed.now session.old }
+    ensures named { (stores : ℕ) → IfOk result (NamesStore stores) }
+    ensures line { (run : Run Agg) → IfOk result (λ line. line
+        ≡ answer_line run (progress session.old) (ask.Expire floor)) }
+    ensures over { OnOk result (IsOverFeed feed.now session.new) }
+    ensures after { (places : Places) → OnOk result (progress session.new
+        ≡ after places (progress session.old) (ask.Expire floor)) }
+    ensures cut { OnOk result (session.new.cut ≡ session.old.cut) }
 {
-    if session.expire(floor) {
-        return TranscriptLine::Floor {
+    if session.expire(alloc, feed, floor)? {
+        return Ok(TranscriptLine::Floor {
             floor: session.floor(),
-        };
+        });
     }
-    TranscriptLine::Refused {
+    Ok(TranscriptLine::Refused {
         asked: floor,
         published: session.published(),
-    }
+    })
 }
 
 // Puts a line.

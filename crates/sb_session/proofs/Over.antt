@@ -22,7 +22,7 @@ use Rattle.sb_feed.specs.Stands.{AreFoldsOf, keyed_values}
 use Rattle.sb_feed.proofs.LogValues.{log_values_valid}
 use Rattle.sb_shard.specs.declared.answer.Answer.{Answer}
 use Rattle.sb_shard.specs.Shards.{ShardValue, shard_sums, cover_of, kept_by}
-use Rattle.sb_shard.specs.Events.{FlushKeeps, InstallKeeps, KeepsOnly}
+use Rattle.sb_shard.specs.Events.{FlushKeeps, InstallKeeps, ExpireKeeps, KeepsOnly}
 use Rattle.sb_shard.specs.Asks.{Answers, values_of, one_or_none, MakesNamed, AreDrained}
 use Rattle.sb_job.specs.Batches.{AreBatchRows}
 use Rattle.sb_job.specs.Emitted.{parts_where, is_between}
@@ -72,7 +72,7 @@ module _ {M E : Type 0} (valid : M → E → Type 0) (add : M → E → E → E)
   job cut = job_by monoids records cut
 
   pub over_new : (held : ShardValue E) (cut : CutValue) (batches : ℕ) → AllByRecursion (IsRecord d) records → cut.shards ≡ 1 → cut.records ≡ length records → batches ≡ batch_count (map (λ r. r.batch) records)
-      → AreFoldsOf d.stores d.add (job cut).log 0 (shard_sums d.add held) → kept_by held ≡ [] → cover_of held ≡ [] → IsOver valid add monoids records (record { shard = held; cut = cut; batches = batches; worked = 0; floor = 0 })
+      → AreFoldsOf d.stores d.add (job cut).log 0 (shard_sums d.add held) → kept_by held ≡ [] → cover_of held ≡ [] → IsOver valid add monoids records (record { shard = held; cut = cut; batches = batches; worked = 0 })
   over_new held cut batches records' one length' count folds kept cover = record {
     job = records';
     length = length';
@@ -87,7 +87,7 @@ module _ {M E : Type 0} (valid : M → E → Type 0) (add : M → E → E → E)
   pub over_flushed : (before : SessionValue E) (after : ShardValue E) (upto from to : ℕ) (parcel : Parcel E) → Commute d → IsOver valid add monoids records before → 0 < before.cut.chunk → before.worked < upto → upto ≤ chunk_count before.cut
       → from ≡ before.worked * before.cut.chunk → to ≡ min (upto * before.cut.chunk) before.cut.records → parcel.chunks ≡ range_with_len before.worked (upto - before.worked)
       → parcel.parts ≡ parts_where (is_between from to) 0 records → FlushKeeps valid add monoids parcel before.shard after → cover_of after ≡ union (cover_of before.shard) parcel.chunks
-      → IsOver valid add monoids records (record { shard = after; cut = before.cut; batches = before.batches; worked = upto; floor = before.floor })
+      → IsOver valid add monoids records (record { shard = after; cut = before.cut; batches = before.batches; worked = upto })
   over_flushed before after upto from to parcel commute over some less most e f chunks parts keeps cover = record {
     job = over.job;
     length = over.length;
@@ -106,7 +106,7 @@ module _ {M E : Type 0} (valid : M → E → Type 0) (add : M → E → E → E)
 
   -- the next batch is published
   pub over_published : (before : SessionValue E) (after : ShardValue E) (rows : Rows E) → IsOver valid add monoids records before → published_by before < before.batches → AreBatchRows d records rows → InstallKeeps rows before.shard after
-      → KeepsOnly rows before.shard after → cover_of after ≡ cover_of before.shard → IsOver valid add monoids records (record { shard = after; cut = before.cut; batches = before.batches; worked = before.worked; floor = before.floor })
+      → KeepsOnly rows before.shard after → cover_of after ≡ cover_of before.shard → IsOver valid add monoids records (record { shard = after; cut = before.cut; batches = before.batches; worked = before.worked })
   over_published before after rows over below made keeps only cover = record {
     job = over.job;
     length = over.length;
@@ -125,6 +125,19 @@ module _ {M E : Type 0} (valid : M → E → Type 0) (add : M → E → E → E)
     either : (row : KeyBytes × E) → Contains (kept_by before.shard) row ⊎ Contains rows.rows row → P row
     either row (inl c) = at_place P (kept_by before.shard) row row c.0 c.1 c.2 over.stands.valid
     either row (inr c) = at_place P rows.rows row row c.0 c.1 c.2 made.valid
+
+  -- the floor is raised
+  pub over_expired : (before : SessionValue E) (after : ShardValue E) (asked : ℕ) → Commute d → IsOver valid add monoids records before → ExpireKeeps valid add monoids asked before.shard after → cover_of after ≡ cover_of before.shard
+      → IsOver valid add monoids records (record { shard = after; cut = before.cut; batches = before.batches; worked = before.worked })
+  over_expired before after asked commute over keeps cover = record {
+    job = over.job;
+    length = over.length;
+    one = over.one;
+    batches = over.batches;
+    worked = over.worked;
+    stands = keeps (job before.cut) 0 refl (record { commute = commute; records = over.job }) (inl refl) over.stands;
+    cover = cover ∙ over.cover;
+  }
 
   -- the values that a shard answers are valid
   pub answered_valid : (session : SessionValue E) (key : KeyBytes) (upto : ℕ) (answer : Answer E) → IsOver valid add monoids records session → key.store < d.stores → SemigroupLaws (d.valid key.store) (d.add key.store)

@@ -1,5 +1,5 @@
 -- What a session is at, and what it reads.
-use Rattle.std.specs.Prelude.{◌≡◌, ℕ, ◌<◌, ◌≤◌, true, List, Option, length}
+use Rattle.std.specs.Prelude.{◌≡◌, ℕ, ◌<◌, ◌≤◌, nat_le, max, true, List, Option, length, if◌then◌else◌}
 use Rattle.std.specs.List.{range_with_len}
 use Rattle.std.specs.FinMap.{find}
 use Rattle.sb_feed.specs.declared.key.KeyBytes.{KeyBytes}
@@ -8,25 +8,28 @@ use Rattle.sb_feed.specs.Places.{batches_of, is_named}
 use Rattle.sb_feed.specs.Jobs.{Record, Job, job_of, meaning_of, places_of, job_fold, AreValid, IsLogOf}
 use Rattle.sb_feed.specs.Keys.{key_order}
 use Rattle.sb_feed.specs.Stands.{StandsFor}
-use Rattle.sb_shard.specs.Shards.{ShardValue, shard_sums, published_to, cover_of}
+use Rattle.sb_shard.specs.Shards.{ShardValue, shard_sums, published_to, cover_of, floor_of}
 
--- what a session keeps: its shard, the cut of the log, the number of the log's batches, how many chunks it has worked, and its floor
+-- what a session keeps: its shard, the cut of the log, the number of the log's batches, and how many chunks it has worked
 pub record SessionValue (E : Type 0) : Type 0 where
   pub shard : ShardValue E
   pub cut : CutValue
   pub batches : ℕ
   pub worked : ℕ
-  pub floor : ℕ
 
 -- the number of published batches
 abbrev pub published_by : {E : Type 0} → SessionValue E → ℕ
 published_by session = published_to session.shard
 
--- the session with another floor
-abbrev pub with_floor : {E : Type 0} → SessionValue E → ℕ → SessionValue E
-with_floor session floor = record session { floor = floor }
+-- the batches below it are added up
+abbrev pub floor_by : {E : Type 0} → SessionValue E → ℕ
+floor_by session = floor_of session.shard
 
--- the job of a feed's dictionaries and records, of which nothing expires
+-- a floor that is raised to another one, but not past the published batches
+abbrev pub raised_floor : ℕ → ℕ → ℕ → ℕ
+raised_floor published floor asked = if nat_le asked published then max floor asked else floor
+
+-- the job of a feed's dictionaries and records; a floor may follow the published batches without a lag
 abbrev pub job_by : {M E : Type 0} → List M → List (Record E) → CutValue → Job M E
 job_by monoids records cut = job_of monoids records cut 0
 

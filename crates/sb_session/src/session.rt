@@ -1,12 +1,12 @@
 //! The session: its events, and what it reads.
-ghost use Rattle.std.specs.Prelude.{◌≡◌, ◌≤◌, ◌<◌, ◌+◌, ◌-◌, ◌*◌, ◌++◌, nat_le, min, max, map, length, IfOk, OnOk, OnErr, if◌then◌else◌};
+ghost use Rattle.std.specs.Prelude.{◌≡◌, ◌≤◌, ◌<◌, ◌+◌, ◌-◌, ◌*◌, ◌++◌, nat_le, min, max, map, length, IfOk, OnOk, OnErr};
 ghost use Rattle.std.specs.List.{AllByRecursion, range_with_len};
 ghost use Rattle.sb_feed.specs.Cuts.{chunk_count};
 ghost use Rattle.sb_feed.specs.Limits.{most_chunks};
 ghost use Rattle.sb_laws.specs.Sums.{sum_of};
 ghost use Rattle.sb_shard.specs.Asks.{values_of};
 ghost use Rattle.sb_shard.specs.Shards.{cover_of};
-ghost use Rattle.sb_session.specs.Sessions.{job_by, IsOver, published_by, read_fold, with_floor, AreAllRows};
+ghost use Rattle.sb_session.specs.Sessions.{job_by, IsOver, published_by, floor_by, raised_floor, read_fold, AreAllRows};
 
 use crate::emitting::{batch_count, parts_between};
 use sb_feed::{Cut, Feed, KeyBytes, Parcel, PartList, RowList, Sums};
@@ -33,7 +33,6 @@ pub struct Session<E> {
     cut: Cut,
     batches: u64,
     worked: u64,
-    floor: u64,
 }
 
 impl<E> Model for Session<E> {
@@ -42,7 +41,7 @@ impl<E> Model for Session<E> {
 
     ghost Value = { SessionValue E };
 
-    ghost view = { λ s. record { shard = s.shard; cut = s.cut; batches = s.batches; worked = s.worked; floor = s.floor } };
+    ghost view = { λ s. record { shard = s.shard; cut = s.cut; batches = s.batches; worked = s.worked } };
 
     ghost invariant = { λ s. IsCut s.cut };
 }
@@ -57,14 +56,14 @@ impl<E: Drop> Session<E> {
         requires one { cut.shards ≡ 1 }
         ensures over { IsOver F.M.valid F.M.add (F.monoids feed.now) (F.records feed.now) result }
         ensures cut { result.cut ≡ cut }
-        ensures numbers { (result.worked ≡ 0) × (published_by result ≡ 0) × (result.floor ≡ 0) }
+        ensures numbers { (result.worked ≡ 0) × (published_by result ≡ 0)
+            × (floor_by result ≡ 0) }
     {
         Session {
             shard: Shard::new(alloc),
             batches: batch_count(feed),
             cut,
             worked: 0,
-            floor: 0,
         }
     }
 
@@ -75,11 +74,11 @@ impl<E: Drop> Session<E> {
         self.shard.published()
     }
 
-    /// The floor: a batch below it isn't told apart any more.
+    /// The floor: the sums of the batches below it are added up.
     pub fn floor(&self) -> u64
-        ensures { result ≡ self.now.floor }
+        ensures { result ≡ floor_by self.now }
     {
-        self.floor
+        self.shard.floor()
     }
 
     /// The chunks that were worked.
@@ -90,17 +89,29 @@ impl<E: Drop> Session<E> {
     }
 
     /// Raises the floor to this one, unless it is there already. False, and nothing changed, exactly where the floor would
-    /// pass the published batches.
-    pub fn expire(&mut self, floor: u64) -> bool
-        ensures raised { result ≡ nat_le floor (published_by self.old) }
-        ensures session { self.new ≡ with_floor self.old (if result then max self.old.floor floor
-            else self.old.floor) }
+    /// pass the published batches. Costs the sums below the floor.
+    pub fn expire<F: Feed>(&mut self, alloc: Global, feed: &F, floor: u64) -> Result<bool, NoMemory>
+    where
+        F::M: Commuting<El = E>,
+        requires over { IsOver F.M.valid F.M.add (F.monoids feed.now) (F.records feed.now)
+            self.old }
+        ensures over { OnOk result (IsOver F.M.valid F.M.add (F.monoids feed.now)
+            (F.records feed.now) self.new) }
+        ensures raised { IfOk result (λ raised. raised ≡ nat_le floor (published_by self.old)) }
+        ensures floor { OnOk result (floor_by self.new ≡ raised_floor (published_by self.old)
+            (floor_by self.old) floor) }
+        ensures others { OnOk result ((self.new.cut ≡ self.old.cut)
+            × (published_by self.new ≡ published_by self.old)
+            × (self.new.worked ≡ self.old.worked)) }
+        ensures err { OnErr result (self.new ≡ self.old) }
     {
         if self.shard.published() < floor {
-            return false;
+            return Ok(false);
         }
-        self.floor = self.floor.max(floor);
-        true
+        match self.shard.expire(alloc, feed, floor) {
+            Ok(()) => Ok(true),
+            Err(_) => Err(AllocError),
+        }
     }
 
     /// Works the next chunks, at most so many, and gives their numbers.
@@ -117,7 +128,7 @@ impl<E: Drop> Session<E> {
             ≡ range_with_len self.old.worked (self.new.worked - self.old.worked)) }
         ensures others { OnOk result ((self.new.cut ≡ self.old.cut)
             × (published_by self.new ≡ published_by self.old)
-            × (self.new.floor ≡ self.old.floor)) }
+            × (floor_by self.new ≡ floor_by self.old)) }
         ensures err { OnErr result (self.new ≡ self.old) }
     {
         let upto = self.cut.chunks().min(self.worked.saturating_add(most));
@@ -141,7 +152,7 @@ impl<E: Drop> Session<E> {
         ensures worked { OnOk result (self.new.worked ≡ upto) }
         ensures others { OnOk result ((self.new.cut ≡ self.old.cut)
             × (published_by self.new ≡ published_by self.old)
-            × (self.new.floor ≡ self.old.floor)) }
+            × (floor_by self.new ≡ floor_by self.old)) }
         ensures err { OnErr result (self.new ≡ self.old) }
     {
         let chunks = chunks_between(alloc, self.worked, upto)?;
@@ -168,7 +179,7 @@ impl<E: Drop> Session<E> {
         ensures published { OnOk result (published_by self.new
             ≡ max (published_by self.old) (min upto self.old.batches)) }
         ensures others { (self.new.cut ≡ self.old.cut) × (self.new.worked ≡ self.old.worked)
-            × (self.new.floor ≡ self.old.floor) }
+            × (floor_by self.new ≡ floor_by self.old) }
     {
         let end = upto.min(self.batches);
         for batch in self.published()..end {
@@ -188,14 +199,15 @@ impl<E: Drop> Session<E> {
         ensures over { IsOver F.M.valid F.M.add (F.monoids feed.now) (F.records feed.now) self.new }
         ensures published { OnOk result (published_by self.new ≡ published_by self.old + 1) }
         ensures others { (self.new.cut ≡ self.old.cut) × (self.new.worked ≡ self.old.worked)
-            × (self.new.batches ≡ self.old.batches) × (self.new.floor ≡ self.old.floor) }
+            × (self.new.batches ≡ self.old.batches) × (floor_by self.new ≡ floor_by self.old) }
     {
         let rows = job(alloc, feed, batch, batch + 1)?;
         self.shard.install(rows)?;
         Ok(())
     }
 
-    /// The fold of a key over the published batches and the chunks that were worked, up to a batch.
+    /// The fold of a key over the published batches and the chunks that were worked, up to a batch, which the floor doesn't
+    /// pass by more than one.
     pub fn read<F: Feed>(
         &self,
         alloc: Global,
@@ -208,6 +220,7 @@ impl<E: Drop> Session<E> {
         requires over { IsOver F.M.valid F.M.add (F.monoids feed.now) (F.records feed.now)
             self.now }
         requires store { key.now.store < length (F.monoids feed.now) }
+        requires open { floor_by self.now ≤ upto + 1 }
         ensures value { IfOk result (λ reading. reading.value
             ≡ read_fold F.M.add (job_by (F.monoids feed.now) (F.records feed.now) self.now.cut)
             key.now upto (published_by self.now) self.now.worked) }
@@ -217,6 +230,9 @@ impl<E: Drop> Session<E> {
         match self.shard.ask(alloc, feed, key, upto) {
             Ok(answer) => merge(alloc, feed.monoid(key.store), answer),
             Err(AskError::NoMemory) => Err(AllocError),
+
+            // The batch isn't expired.
+            Err(AskError::Expired { .. }) => unreachable!(),
         }
     }
 

@@ -1,6 +1,6 @@
 use Rattle.std.proofs.Common.{◌≡◌, ◌≤◌}
 use Rattle.std.specs.Prelude.{max}
-use Rattle.sb_session.specs.Sessions.{IsOver, published_by}
+use Rattle.sb_session.specs.Sessions.{IsOver, published_by, floor_by}
 use Rattle.sb_session.proofs.session.Session.publish.Given as goal
 
 abbrev pub invariant-loop-batch : goal.invariant-loop-batch
@@ -11,5 +11,5 @@ invariant-loop-batch g l = record {
   cut : l.self.cut ≡ l.fn.self.cut;
   worked : l.self.worked ≡ l.fn.self.worked;
   batches : l.self.batches ≡ l.fn.self.batches;
-  floor : l.self.floor ≡ l.fn.self.floor;
+  floor : floor_by l.self ≡ floor_by l.fn.self;
 }
