@@ -108,10 +108,10 @@ impl<E: Drop> Session<E> {
         if self.shard.published() < floor {
             return Ok(false);
         }
-        match self.shard.expire(alloc, feed, floor) {
-            Ok(()) => Ok(true),
-            Err(_) => Err(AllocError),
-        }
+        let Ok(()) = self.shard.expire(alloc, feed, floor) else {
+            return Err(AllocError);
+        };
+        Ok(true)
     }
 
     /// Works the next chunks, at most so many, and gives their numbers.

@@ -12,12 +12,12 @@ use std::alloc::Global;
 use std::marker::Model;
 
 /// The cells of a count-min sketch, row after row. Contracts see the full list, whatever the form.
-#[derive(Debug, Drop)]
+#[derive(Drop)]
 pub struct Cells {
     form: Form,
 }
 
-#[derive(Debug, Drop)]
+#[derive(Drop)]
 enum Form {
     Full(Vec<u64>),
     // This many cells, all 0 but for those at these places: how often each place is named.

@@ -9,12 +9,12 @@ use std::alloc::Global;
 use std::marker::Model;
 
 /// The registers of a HyperLogLog, from number 0. Contracts see the full list, whatever the form.
-#[derive(Debug, Drop)]
+#[derive(Drop)]
 pub struct Registers {
     form: Form,
 }
 
-#[derive(Debug, Drop)]
+#[derive(Drop)]
 enum Form {
     Full(Vec<u8>),
     // This many registers, all 0 but for one.

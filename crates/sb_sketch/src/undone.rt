@@ -4,7 +4,7 @@ use crate::registers::Registers;
 use sb_laws::Items;
 
 /// What takes a plus of two count-min sketches back.
-#[derive(Debug, Drop)]
+#[derive(Drop)]
 pub enum CellsUndone {
     /// The earlier sketch.
     Cells(Cells),
@@ -13,7 +13,7 @@ pub enum CellsUndone {
 }
 
 /// What takes a plus of two HyperLogLogs back.
-#[derive(Debug, Drop)]
+#[derive(Drop)]
 pub enum RegistersUndone {
     /// The earlier registers.
     Registers(Registers),

@@ -4,8 +4,8 @@ use Rattle.sb_session.specs.Sessions.{IsOver}
 use Rattle.sb_session.proofs.Over.{over_expired}
 use Rattle.sb_session.proofs.session.Session.expire.Goals as goal
 
-pub returns-in-Ok-clause-over : goal.returns-in-Ok-clause-over
-returns-in-Ok-clause-over g c =
+pub returns-clause-over : goal.returns-clause-over
+returns-clause-over g c =
     let records = g.F.Feed.records c.args.feed.now in
     let commute = stores_commute g.F.M.Semigroup.valid g.F.M.Semigroup.add (λ m. record {
       semigroup = record { keeps_valid = g.met.F.M.Semigroup.keeps_valid m; associates = g.met.F.M.Semigroup.associates m };
