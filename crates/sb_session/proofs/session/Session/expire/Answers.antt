@@ -11,5 +11,5 @@ returns-clause-over g c =
       semigroup = record { keeps_valid = g.met.F.M.Semigroup.keeps_valid m; associates = g.met.F.M.Semigroup.associates m };
       commutes = g.met.F.M.Commuting.commutes m;
     }) (g.F.Family.monoids c.args.feed.now) in
-    let over = subst (IsOver g.F.M.Semigroup.valid g.F.M.Semigroup.add (g.F.Family.monoids c.args.feed.now) records) (sym c.self.view_is) c.requires in
+    let over = subst (IsOver g.F.M.Semigroup.valid g.F.M.Semigroup.add (g.F.Family.monoids c.args.feed.now) records) (sym c.self.view_is) c.requires.over in
     over_expired g.F.M.Semigroup.valid g.F.M.Semigroup.add (g.F.Family.monoids c.args.feed.now) records _ c.expire.new.self c.args.floor commute over c.in-Ok.ensures.stands c.in-Ok.ensures.cover
