@@ -1,4 +1,5 @@
 //! An index of a log's batches, and rows divided among shards, on given numbers.
+use crate::expecting::equal;
 use sb_feed::{BatchIndex, Cut, KeyBytes, RowList, Rows};
 use sb_job::split_rows;
 use sb_laws::NoMemory;
@@ -12,12 +13,12 @@ fn positions_of_batches(rt: HostRuntime) -> Result<(), Fail> {
     index.push(2)?;
     index.push(0)?;
     index.push(2)?;
-    assert_eq!(rt; index.len(), 3);
-    assert_eq!(rt; index.batch(1), 0);
-    assert_eq!(rt; index.positions(2), [0, 2].as_slice());
-    assert_eq!(rt; index.positions(0), [1].as_slice());
-    assert_eq!(rt; index.positions(1).len(), 0);
-    assert_eq!(rt; index.positions(u64::MAX).len(), 0);
+    equal(&rt, index.len(), 3);
+    equal(&rt, index.batch(1), 0);
+    equal(&rt, index.positions(2), [0, 2].as_slice());
+    equal(&rt, index.positions(0), [1].as_slice());
+    equal(&rt, index.positions(1).len(), 0);
+    equal(&rt, index.positions(u64::MAX).len(), 0);
     Ok(())
 }
 
@@ -46,10 +47,10 @@ fn a_row_goes_to_the_shard_of_its_key(rt: HostRuntime) -> Result<(), Fail> {
     let shard = u64::from(cut.shard_of(&key(alloc, "a")?));
     let mut at = 0;
     for rows in split_rows(alloc, row(alloc, "a")?, &cut)? {
-        assert_eq!(rt; (rows.from, rows.to), (4, 5));
-        assert_eq!(rt; rows.rows.is_empty(), at != shard);
+        equal(&rt, (rows.from, rows.to), (4, 5));
+        equal(&rt, rows.rows.is_empty(), at != shard);
         at = at.wrapping_add(1);
     }
-    assert_eq!(rt; at, 3);
+    equal(&rt, at, 3);
     Ok(())
 }

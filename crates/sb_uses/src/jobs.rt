@@ -2,6 +2,7 @@
 ghost use Rattle.std.specs.Prelude.{◌≡◌, ◌<◌, [], ◌∷◌, ◌++◌, OnOk, OnErr};
 ghost use Rattle.sb_feed.specs.Feeds.{parts_of};
 
+use crate::expecting::equal;
 use sb_feed::{Family, Feed, KeyBytes, Part};
 use sb_job::job;
 use sb_laws::{NoMemory, Semigroup};
@@ -126,10 +127,10 @@ fn last(alloc: Global, from: u64, to: u64) -> Result<Option<u64>, NoMemory> {
 #[test]
 fn a_job_goes_by_the_log(rt: HostRuntime) -> Result<(), Fail> {
     let alloc = rt.alloc();
-    assert_eq!(rt; last(alloc, 0, 1)?, Some(1));
-    assert_eq!(rt; last(alloc, 1, 2)?, Some(0));
-    assert_eq!(rt; last(alloc, 0, u64::MAX)?, Some(1));
-    assert_eq!(rt; last(alloc, 2, 7)?, None);
-    assert_eq!(rt; last(alloc, 7, 2)?, None);
+    equal(&rt, last(alloc, 0, 1)?, Some(1));
+    equal(&rt, last(alloc, 1, 2)?, Some(0));
+    equal(&rt, last(alloc, 0, u64::MAX)?, Some(1));
+    equal(&rt, last(alloc, 2, 7)?, None);
+    equal(&rt, last(alloc, 7, 2)?, None);
     Ok(())
 }
