@@ -3,6 +3,8 @@
 #![tactic(auto)]
 
 #[cfg(test)]
+mod batches;
+#[cfg(test)]
 mod bounds;
 #[cfg(test)]
 mod cuts;
@@ -10,6 +12,8 @@ mod cuts;
 mod expecting;
 #[cfg(test)]
 mod greater;
+#[cfg(test)]
+mod jobs;
 #[cfg(test)]
 mod kinds;
 #[cfg(test)]
