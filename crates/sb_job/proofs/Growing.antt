@@ -48,6 +48,10 @@ module _ {E : Type 0} where
   lookup_is_find q [] = refl
   lookup_is_find q (e ∷ es) = ap (λ b. cond b (Some e.1) (lookup (equals q) es)) (equals_same q e.0) ∙ ap (λ o. cond (same_key q e.0) (Some e.1) o) (lookup_is_find q es)
 
+pub whatever : {T R P : Type 0} (r : Result T R) → P → OnErr r P
+whatever (Ok _) p = tt
+whatever (Err _) p = p
+
 -- what is lent is what is found
 pub lent_is : {E : Type 0} (lent : Option (Bor E)) (found : Option E) → option_map (λ value. value.now) lent ≡ found → MatchOption lent (found ≡ None) (λ value. found ≡ Some value.now)
 lent_is None found e = sym e

@@ -8,7 +8,7 @@ ghost use Rattle.sb_feed.specs.declared.key.KeyBytes.{KeyBytes as Key};
 ghost use Rattle.sb_feed.specs.Keys.{key_order, same_key};
 ghost use Rattle.sb_feed.specs.Jobs.{AreValid, meant, valid_by};
 ghost use Rattle.sb_feed.specs.Stands.{keyed_values};
-ghost use Rattle.sb_job.specs.Sums.{HasKeySums};
+ghost use Rattle.sb_job.specs.Sums.{AddsValue, HasKeySums};
 
 use crate::key_set::KeySet;
 use sb_feed::{Family, KeyBytes, Part, RowList};
@@ -82,7 +82,7 @@ impl<E> KeySums<E> {
         }
     }
 
-    /// Does what `add` does, by copies of the key and the value.
+    /// Does what `add` does, by a copy of the value, and of the key where it is a new one.
     pub fn add_copy<F: Family>(
         &mut self,
         alloc: Global,
@@ -105,8 +105,42 @@ impl<E> KeySums<E> {
         ensures err { OnErr result (self.new ≡ self.old) }
     {
         let copy = family.monoid(key.store).copy(alloc, value)?;
-        let key = key.copy(alloc)?;
-        self.add(alloc, family, key, copy)
+        match self.add_there(alloc, family, key, copy)? {
+            None => Ok(()),
+            Some(copy) => {
+                let key = key.copy(alloc)?;
+                self.add(alloc, family, key, copy)
+            }
+        }
+    }
+
+    // Adds a value on the right of its key's sum, or gives it back where the key has none.
+    fn add_there<F: Family>(
+        &mut self,
+        alloc: Global,
+        family: &F,
+        key: &KeyBytes,
+        value: E,
+    ) -> Result<Option<E>, NoMemory>
+    where
+        F::M: Semigroup<El = E>,
+        requires store { key.now.store < length (F.monoids family.now) }
+        requires value { valid_by F.M.valid (slice_get (F.monoids family.now) key.now.store)
+            value }
+        requires sums { AreValid (meant F.M.valid F.M.add (F.monoids family.now)) self.old }
+        ensures valid { AreValid (meant F.M.valid F.M.add (F.monoids family.now)) self.new }
+        ensures ok { IfOk result (λ left. MatchOption left
+            (AddsValue (meant F.M.valid F.M.add (F.monoids family.now)) key.now value self.old
+            self.new) (λ back. (back ≡ value) × (self.new ≡ self.old))) }
+        ensures err { OnErr result (self.new ≡ self.old) }
+    {
+        match self.sums.get_mut(key) {
+            Some(sum) => {
+                family.monoid(key.store).plus(alloc, sum, value)?;
+                Ok(None)
+            }
+            None => Ok(Some(value)),
+        }
     }
 
     /// Adds values, one after the other. After a refusal those before the refused one are added.

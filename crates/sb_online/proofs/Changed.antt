@@ -21,14 +21,10 @@ use Rattle.sb_job.proofs.Listed.{values_both, distinct_value, sum_before}
 use Rattle.sb_online.specs.Onlines.{tables_parts, AddsPart}
 use Rattle.sb_online.proofs.Tabled.{parts_both, table_here, table_other, tables_at, set_all, to_tables, from_tables}
 
--- what holds of what succeeds, and of what is refused
+-- what holds of what succeeds
 pub holds : {T R : Type 0} {P : Type 0} (r : Result T R) → is_err r ≡ false → OnOk r P → P
 holds (Ok _) e h = h
 holds (Err _) e h = cc
-
-pub refused : {T R : Type 0} {P : Type 0} (r : Result T R) → is_err r ≡ true → OnErr r P → P
-refused (Ok _) e h = cc
-refused (Err _) e h = h
 
 -- what is new is as wanted, or is what was there
 pub either_way : {T R A : Type 0} (P : A → Type 0) (r : Result T R) (old new : A) → OnOk r (P new) → OnErr r (new ≡ old) → P old → P new
