@@ -15,7 +15,7 @@ ghost use Rattle.sb_report.specs.Transcript.{line_text, store_name, NamesStore};
 ghost use Rattle.sb_report.specs.declared.script.Ask.TheVariants as ask;
 ghost use Rattle.sb_run.specs.Answering.{progress, online, runner_row, IsOverFeed, Serves};
 ghost use Rattle.sb_run.specs.Run.{Run, good_value, report_text};
-ghost use Rattle.sb_run.specs.ScriptOutput.{after, answer_line, cover_at, lines_text, script_lines, run_text};
+ghost use Rattle.sb_run.specs.ScriptOutput.{after, answer_line, cover_at, lines_text, script_lines, start, run_text};
 ghost use Rattle.sb_session.specs.Sessions.{published_by, floor_by};
 
 use sb_check::Checked;
@@ -50,11 +50,22 @@ pub fn answer_all<K: Sink>(
         sink.new)) }
     ensures cause { HasSinkCause (K.faults sink.old) (K.faults sink.new) result }
 {
-    let mut session = Session::new(alloc, feed, cut);
+    let mut session = session_over(alloc, feed, cut);
     put_answers(alloc, sink, c, feed, &mut session, asks)?;
     put_line(alloc, sink, c, &TranscriptLine::Drained)?;
     put_report(alloc, sink, c, feed, session)?;
     put_line(alloc, sink, c, &TranscriptLine::End)
+}
+
+// A session that begins.
+fn session_over(alloc: Global, feed: &OnlineRunner, cut: Cut) -> Session<Agg>
+    requires records { cut.records ≡ length feed.now.records }
+    requires one { cut.shards ≡ 1 }
+    ensures over { IsOverFeed feed.now result }
+    ensures cut { result.cut ≡ cut }
+    ensures start { progress result ≡ start }
+{
+    Session::new(alloc, feed, cut)
 }
 
 fn put_answers<K: Sink>(
