@@ -50,14 +50,38 @@ pub fn answer_all<K: Sink>(
         sink.new)) }
     ensures cause { HasSinkCause (K.faults sink.old) (K.faults sink.new) result }
 {
-    let mut session = session_over(alloc, feed, cut);
-    put_answers(alloc, sink, c, feed, &mut session, asks)?;
+    let session = put_script(alloc, sink, c, feed, cut, asks)?;
     put_line(alloc, sink, c, &TranscriptLine::Drained)?;
     put_report(alloc, sink, c, feed, session)?;
     put_line(alloc, sink, c, &TranscriptLine::End)
 }
 
-// A session that begins.
+// Answers the asks in a session that begins.
+fn put_script<K: Sink>(
+    alloc: Global,
+    sink: &mut K,
+    c: &Checked,
+    feed: &OnlineRunner,
+    cut: Cut,
+    asks: Vec<Ask>,
+) -> Result<Session<Agg>, SinkError>
+    ghost run: { Run Agg }
+    requires serves { Serves (checked_of c.now) feed.now cut run }
+    requires records { cut.records ≡ length feed.now.records }
+    requires one { cut.shards ≡ 1 }
+    requires stores { AllByRecursion (AsksOf (length (checked_of c.now).declared.stores))
+        asks.items }
+    ensures ok { OnOk result (Appends (lines_text (store_name (checked_of c.now).declared)
+        (script_lines run start asks.items)) (K.written sink.old) (K.written sink.new)) }
+    ensures over { IfOk result (IsOverFeed feed.now) }
+    ensures cut { IfOk result (λ session. session.cut ≡ cut) }
+    ensures cause { HasSinkCause (K.faults sink.old) (K.faults sink.new) result }
+{
+    let mut session = session_over(alloc, feed, cut);
+    put_answers(alloc, sink, c, feed, &mut session, asks)?;
+    Ok(session)
+}
+
 fn session_over(alloc: Global, feed: &OnlineRunner, cut: Cut) -> Session<Agg>
     requires records { cut.records ≡ length feed.now.records }
     requires one { cut.shards ≡ 1 }
