@@ -50,7 +50,8 @@ pub fn answer_all<K: Sink>(
         sink.new)) }
     ensures cause { HasSinkCause (K.faults sink.old) (K.faults sink.new) result }
 {
-    let session = put_script(alloc, sink, c, feed, cut, asks)?;
+    let mut session = session_over(alloc, feed, cut);
+    put_script(alloc, sink, c, feed, &mut session, asks)?;
     put_line(alloc, sink, c, &TranscriptLine::Drained)?;
     put_report(alloc, sink, c, feed, session)?;
     put_line(alloc, sink, c, &TranscriptLine::End)
@@ -62,24 +63,22 @@ fn put_script<K: Sink>(
     sink: &mut K,
     c: &Checked,
     feed: &OnlineRunner,
-    cut: Cut,
+    session: &mut Session<Agg>,
     asks: Vec<Ask>,
-) -> Result<Session<Agg>, SinkError>
+) -> Result<(), SinkError>
     ghost run: { Run Agg }
-    requires serves { Serves (checked_of c.now) feed.now cut run }
-    requires records { cut.records ≡ length feed.now.records }
-    requires one { cut.shards ≡ 1 }
+    requires serves { Serves (checked_of c.now) feed.now session.old.cut run }
+    requires over { IsOverFeed feed.now session.old }
     requires stores { AllByRecursion (AsksOf (length (checked_of c.now).declared.stores))
         asks.items }
+    requires begins { progress session.old ≡ start }
     ensures ok { OnOk result (Appends (lines_text (store_name (checked_of c.now).declared)
         (script_lines run start asks.items)) (K.written sink.old) (K.written sink.new)) }
-    ensures over { IfOk result (IsOverFeed feed.now) }
-    ensures cut { IfOk result (λ session. session.cut ≡ cut) }
+    ensures over { OnOk result (IsOverFeed feed.now session.new) }
+    ensures cut { OnOk result (session.new.cut ≡ session.old.cut) }
     ensures cause { HasSinkCause (K.faults sink.old) (K.faults sink.new) result }
 {
-    let mut session = session_over(alloc, feed, cut);
-    put_answers(alloc, sink, c, feed, &mut session, asks)?;
-    Ok(session)
+    put_answers(alloc, sink, c, feed, session, asks)
 }
 
 fn session_over(alloc: Global, feed: &OnlineRunner, cut: Cut) -> Session<Agg>
