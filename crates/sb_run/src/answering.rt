@@ -15,7 +15,7 @@ ghost use Rattle.sb_report.specs.Transcript.{line_text, store_name, NamesStore};
 ghost use Rattle.sb_report.specs.declared.script.Ask.TheVariants as ask;
 ghost use Rattle.sb_run.specs.Answering.{progress, online, runner_row, IsOverFeed, Serves};
 ghost use Rattle.sb_run.specs.Run.{Run, good_value, report_text};
-ghost use Rattle.sb_run.specs.ScriptOutput.{after, answer_line, cover_at, lines_text, script_lines, run_text};
+ghost use Rattle.sb_run.specs.ScriptOutput.{after, answer_line, cover_at, lines_text, script_lines, start, run_text};
 ghost use Rattle.sb_session.specs.Sessions.{published_by, floor_by};
 
 use sb_check::Checked;
@@ -50,11 +50,45 @@ pub fn answer_all<K: Sink>(
         sink.new)) }
     ensures cause { HasSinkCause (K.faults sink.old) (K.faults sink.new) result }
 {
-    let mut session = Session::new(alloc, feed, cut);
-    put_answers(alloc, sink, c, feed, &mut session, asks)?;
+    let mut session = session_over(alloc, feed, cut);
+    put_script(alloc, sink, c, feed, &mut session, asks)?;
     put_line(alloc, sink, c, &TranscriptLine::Drained)?;
     put_report(alloc, sink, c, feed, session)?;
     put_line(alloc, sink, c, &TranscriptLine::End)
+}
+
+// Answers the asks in a session that begins.
+fn put_script<K: Sink>(
+    alloc: Global,
+    sink: &mut K,
+    c: &Checked,
+    feed: &OnlineRunner,
+    session: &mut Session<Agg>,
+    asks: Vec<Ask>,
+) -> Result<(), SinkError>
+    ghost run: { Run Agg }
+    requires serves { Serves (checked_of c.now) feed.now session.old.cut run }
+    requires over { IsOverFeed feed.now session.old }
+    requires stores { AllByRecursion (AsksOf (length (checked_of c.now).declared.stores))
+        asks.items }
+    requires begins { progress session.old ≡ start }
+    ensures ok { OnOk result (Appends (lines_text (store_name (checked_of c.now).declared)
+        (script_lines run start asks.items)) (K.written sink.old) (K.written sink.new)) }
+    ensures over { OnOk result (IsOverFeed feed.now session.new) }
+    ensures cut { OnOk result (session.new.cut ≡ session.old.cut) }
+    ensures cause { HasSinkCause (K.faults sink.old) (K.faults sink.new) result }
+{
+    put_answers(alloc, sink, c, feed, session, asks)
+}
+
+fn session_over(alloc: Global, feed: &OnlineRunner, cut: Cut) -> Session<Agg>
+    requires records { cut.records ≡ length feed.now.records }
+    requires one { cut.shards ≡ 1 }
+    ensures over { IsOverFeed feed.now result }
+    ensures cut { result.cut ≡ cut }
+    ensures start { progress result ≡ start }
+{
+    Session::new(alloc, feed, cut)
 }
 
 fn put_answers<K: Sink>(

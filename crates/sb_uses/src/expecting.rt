@@ -1,4 +1,6 @@
 //! What a test wants. A call costs less proof than the macro in its place.
+ghost use Rattle.std.specs.Prelude.{IsTrue};
+
 use std::fmt::Debug;
 use std::process::Abort;
 
@@ -8,6 +10,8 @@ pub fn equal<T: PartialEq + Debug + Drop>(rt: &impl Abort, came: T, wanted: T) {
 }
 
 /// Stops the test where what it wants doesn't hold.
-pub fn holds(rt: &impl Abort, wanted: bool) {
+pub fn holds(rt: &impl Abort, wanted: bool)
+    ensures { IsTrue wanted }
+{
     assert!(rt; wanted);
 }

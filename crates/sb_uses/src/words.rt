@@ -17,28 +17,44 @@ fn text_is(text: &Text, expected: &str) -> bool {
     text.as_bytes() == expected.as_bytes()
 }
 
+// Whether it is `check` of this file.
+fn is_check(command: &Command, file: &str) -> bool {
+    match command {
+        Command::Check { program } => text_is(program, file),
+        _ => false,
+    }
+}
+
+// Whether it is `batch P L` with one service.
+fn is_batch(command: &Command, name: &str, file: &str) -> bool {
+    match command {
+        Command::Batch {
+            program,
+            log,
+            services,
+        } => {
+            text_is(program, "P")
+                && text_is(log, "L")
+                && is_service(services.as_slice(), name, file)
+        }
+        _ => false,
+    }
+}
+
+fn is_service(services: &[(Text, Text)], name: &str, file: &str) -> bool {
+    match services {
+        [service] => text_is(&service.0, name) && text_is(&service.1, file),
+        _ => false,
+    }
+}
+
 #[test]
 fn words_are_commands(rt: HostRuntime) -> Result<(), Fail> {
     let alloc = rt.alloc();
     let check = words(alloc, &words_of(alloc, "check -- -p")?)?;
-    holds(
-        &rt,
-        matches!(check, Command::Check { program } if text_is(&program, "-p")),
-    );
+    holds(&rt, is_check(&check, "-p"));
     let batch = words(alloc, &words_of(alloc, "batch P L b=y=z")?)?;
-    let Command::Batch {
-        program,
-        log,
-        services,
-    } = batch
-    else {
-        return Ok(holds(&rt, false));
-    };
-    holds(&rt, text_is(&program, "P") && text_is(&log, "L"));
-    let [(name, file)] = services.as_slice() else {
-        return Ok(holds(&rt, false));
-    };
-    holds(&rt, text_is(name, "b") && text_is(file, "y=z"));
+    holds(&rt, is_batch(&batch, "b", "y=z"));
     for line in [
         "",
         "check P --help",

@@ -3,9 +3,9 @@ use Rattle.sb_session.proofs.Over.{few_batches}
 use Rattle.sb_plan.specs.Runners.{online_add, online_valid}
 use Rattle.sb_run.proofs.answering.read.Goals as goal
 
-pub value_at-requires-clause-open : goal.value_at-requires-clause-open
-value_at-requires-clause-open g c =
+pub value_at-requires : goal.value_at-requires
+value_at-requires g c =
     let runner = c.args.feed.now in
     let over = c.requires.1.0 in
     let few = few_batches online_valid online_add runner.stores.monoids runner.records c.args.session.now over in
-    omega (arith, over.stands.folds.floor, over.stands.folds.last, over.batches, few)
+    (c.requires.0, (over, (c.requires.1.1, omega (arith, over.stands.folds.floor, over.stands.folds.last, over.batches, few))))

@@ -16,4 +16,4 @@ returns-clause-value g c =
     let key = c.args.key.now in
     c.in_ok-value.ensures ∙ (ap (fold_text element_text) (c.in_ok-reading.ensures.value
     ∙ ap (λ places. job_fold online_add (job_in c.args.feed.now session.cut) key (is_named places c.args.upto (published_by session) (range_with_len 0 session.worked))) serves.places)
-    ∙ sym (serves.values key.store c.requires.1.1 key.text (is_named g.run.places c.args.upto (published_by session) (range_with_len 0 session.worked))))
+    ∙ sym (serves.values key.store c.requires.1.1.0 key.text (is_named g.run.places c.args.upto (published_by session) (range_with_len 0 session.worked))))
