@@ -13,8 +13,8 @@ use std::rt::{Env, Files};
 use std::thread::Builder;
 use std::{env, fs, thread};
 
-// The stack of the thread that runs the rows, in bytes. The deepest programs nest 124 expressions, and in code that
-// isn't optimized each of them takes some 64 KiB.
+// The stack of the thread that runs the rows, in bytes. The deepest programs nest 124 expressions; as Rattle's own compiler
+// builds the parser, they need more than the 8 MiB of a first thread.
 const STACK: usize = 64 << 20;
 
 // Runs the rows of a text, and tells how many differ.
