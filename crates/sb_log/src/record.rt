@@ -21,7 +21,8 @@ const LAST_BATCH: u64 = 65_535;
 
 /// The record that a line says.
 pub fn read_record(alloc: Global, c: &Checked, line: Line<'_>) -> Result<LogRecord, LineError>
-    ensures read { ReadsLine logged_of (record_of (checked_of c.now) (line_view line.entry)) result }
+    ensures read { ReadsLine logged_of (record_of (checked_of c.now) (line_view line.entry))
+        result }
     ensures batch { IfOk result (InBatch (checked_of c.now).batching) }
 {
     if line.bytes.len() > LINE_LIMIT {

@@ -74,6 +74,7 @@ fn lent<'a>(term: &'a Term, it: &'a Val) -> Option<&'a Val>
     }
 }
 
+/// A list of these values.
 #[tactic(auto, using(crate::proofs::Views::list_view))]
 pub fn listed(values: Vec<Val>) -> Val
     ensures { value_of result ≡ list (values_of (map value_of values.items)) }

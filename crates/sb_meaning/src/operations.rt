@@ -16,6 +16,7 @@ use sqlite_items::Boxed;
 use std::alloc::Global;
 use std::cmp::Ordering;
 
+/// An option that has the value.
 #[tactic(auto, using(crate::proofs::Views::some_view))]
 pub fn wrapped(alloc: Global, value: Val) -> Result<Val, NoMemory>
     ensures { IfOk result (λ v. value_of v ≡ some (value_of value)) }
@@ -23,6 +24,7 @@ pub fn wrapped(alloc: Global, value: Val) -> Result<Val, NoMemory>
     Ok(Val::Opt(Some(Boxed::new(alloc, value)?)))
 }
 
+/// The pair of two values.
 pub fn paired(alloc: Global, left: Val, right: Val) -> Result<Val, NoMemory>
     ensures { IfOk result (λ v. value_of v ≡ pair (value_of left) (value_of right)) }
 {
