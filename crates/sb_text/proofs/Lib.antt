@@ -3,8 +3,9 @@ pub mod EscapedForms
 pub mod EscapedTexts
 pub mod FieldForms
 pub mod FieldTexts
+pub mod RangeEdits
+pub mod RangeNumbers
 pub mod RangeReads
-pub mod RangeTexts
 pub mod Sets
 pub mod Spellings
 pub mod Splits

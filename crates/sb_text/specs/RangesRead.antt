@@ -1,7 +1,6 @@
 -- How the text of a set is read, piece by piece.
-use Rattle.std.specs.Prelude.{ℕ, ◌+◌, ◌-◌, ◌^◌, ◌++◌, ◌==◌, nat_le, List, [], ◌∷◌, Option, Some, None, option_map, option_and_then, bytes_eq, codes, if◌then◌else◌}
+use Rattle.std.specs.Prelude.{ℕ, ◌+◌, ◌-◌, ◌^◌, ◌==◌, nat_le, List, [], ◌∷◌, Option, Some, None, option_map, option_and_then, bytes_eq, codes, if◌then◌else◌}
 use Rattle.std.specs.Borrow.{Bor}
-use Rattle.std.specs.List.{range_with_len}
 use Rattle.sb_text.specs.Columns.{pieces}
 use Rattle.sb_text.specs.Decimal.{natural}
 use Rattle.sb_text.specs.Ranges.{Range}
@@ -24,22 +23,18 @@ abbrev pub range_read : List ℕ → Option Range
 range_read text =
     option_and_then (λ parts. option_and_then (λ low. option_and_then (λ high. ordered_range low high) (natural most parts.1)) (natural most parts.0)) (cut 45 text)
 
--- the numbers of a range
-abbrev pub numbers_in : Range → List ℕ
-numbers_in range = range_with_len range.0 (range.1 + 1 - range.0)
-
--- the numbers of the ranges that the pieces spell, of which the first begins at `least` or above, and each further
--- one leaves a number out
-abbrev pub numbers_from : ℕ → List (List ℕ) → Option (List ℕ)
-numbers_from least [] = Some []
-numbers_from least (piece ∷ rest) =
-    option_and_then (λ range. if nat_le least range.0 then option_map (λ numbers. numbers_in range ++ numbers) (numbers_from (range.1 + 2) rest) else None) (range_read piece)
+-- the ranges that the pieces spell, of which the first begins at `least` or above, and each further one leaves a
+-- number out
+abbrev pub ranges_from : ℕ → List (List ℕ) → Option (List Range)
+ranges_from least [] = Some []
+ranges_from least (piece ∷ rest) =
+    option_and_then (λ range. if nat_le least range.0 then option_map (λ ranges. range ∷ ranges) (ranges_from (range.1 + 2) rest) else None) (range_read piece)
 
 -- the pieces that are left: those of what follows the last comma, and none after the last piece
 abbrev pub pieces_left : Option (Bor (List ℕ)) → List (List ℕ)
 pieces_left None = []
 pieces_left (Some rest) = pieces 44 rest.now
 
--- the set that the text spells
-abbrev pub set_read : List ℕ → Option (List ℕ)
-set_read text = if bytes_eq text (codes "none") then Some [] else numbers_from 0 (pieces 44 text)
+-- the ranges that the text of a set spells
+abbrev pub ranges_read : List ℕ → Option (List Range)
+ranges_read text = if bytes_eq text (codes "none") then Some [] else ranges_from 0 (pieces 44 text)

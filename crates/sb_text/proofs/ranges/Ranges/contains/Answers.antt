@@ -1,8 +1,10 @@
 use Rattle.std.proofs.Common.{sym}
-use Rattle.sb_text.proofs.Sets.{Contains-searched}
+use Rattle.sb_text.specs.MaximalRanges.{numbers_of}
+use Rattle.sb_text.proofs.RangeEdits.{has_covered}
+use Rattle.sb_text.proofs.Sets.{has_contains}
 use Rattle.sb_text.proofs.ranges.Ranges.contains.Goals as goal
 
 pub returns : goal.returns
 returns c =
-    rw (c.is_ok.ensures.value, sym c.self.view_is)
-    (Contains-searched c.self.inside.numbers.items c.args.number c.binary_search.result c.self.invariant.rising (rw c.deref.ensures.value at c.binary_search.ensures.position))
+    rw (c.covers.ensures, c.deref.ensures.value, sym (has_covered c.args.number c.self.inside.ranges.items), sym c.self.view_is)
+    (has_contains c.args.number (numbers_of c.self.inside.ranges.items))

@@ -1,7 +1,8 @@
-use Rattle.std.proofs.Common.{sym}
-use Rattle.sb_text.proofs.Sets.{set_put}
+use Rattle.sb_text.proofs.RangeEdits.{numbers-put}
 use Rattle.sb_text.proofs.ranges.Ranges.insert.Goals as goal
 
-pub invariant_of-self-2 : goal.invariant_of-self-2
-invariant_of-self-2 c =
-    rw (c.in_ok-insert.ensures.items, sym (rw c.deref.ensures.value at c.in-Some.ensures.1)) (set_put c.args.number c.self.inside.numbers.items c.requires c.self.invariant)
+pub returns-clause-ok : goal.returns-clause-ok
+returns-clause-ok c =
+    rw (← c.self.view_is)
+    (numbers-put c.self.inside.ranges.items c.put_range.new.ranges.items c.args.number c.self.invariant c.put_range.ensures.maximal
+    (rw c.in_ok-reserve.ensures.items at c.put_range.ensures.covered))

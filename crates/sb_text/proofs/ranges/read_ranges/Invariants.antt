@@ -1,13 +1,13 @@
 use Rattle.std.proofs.Common.{◌≡◌, ◌≤◌, ◌^◌, ◌+◌, ◌++◌}
 use Rattle.std.specs.Option.{option_map}
 use Rattle.sb_text.specs.Columns.{pieces}
-use Rattle.sb_text.specs.RangesRead.{numbers_from, pieces_left}
+use Rattle.sb_text.specs.RangesRead.{ranges_from, pieces_left}
 use Rattle.sb_text.proofs.RangeReads.{room_left}
-use Rattle.sb_text.proofs.ranges.read_numbers.Given as goal
+use Rattle.sb_text.proofs.ranges.read_ranges.Given as goal
 
 abbrev pub invariant-loop-left : goal.invariant-loop-left
 invariant-loop-left l = record {
-  read : option_map (λ rest. l.numbers.items ++ rest) (numbers_from l.least (pieces_left l.left)) ≡ numbers_from 0 (pieces 44 l.bytes);
+  read : option_map (λ rest. l.ranges.items ++ rest) (ranges_from l.least (pieces_left l.left)) ≡ ranges_from 0 (pieces 44 l.bytes);
   small : l.least ≤ 2 ^ 32 + 1;
 }
 
