@@ -1,6 +1,9 @@
-//! A row is run through the top call, and what came is compared with what it wants.
+//! A row is run through the top call, and what came is compared with what it wants, and each sum of its report with
+//! the plain program's.
 
+use crate::folding::{Unlike, first_unlike};
 use crate::row::{Case, Row, words_of};
+use anyhow::Context;
 use sb_io::{MemShelf, MemSink};
 use sb_run::summingbird;
 use std::alloc::Global;
@@ -12,8 +15,18 @@ struct Outcome {
     output: Vec<u8>,
 }
 
-// The one place that makes the top call.
-fn run(alloc: Global, row: &Row, case: Option<&Case>) -> anyhow::Result<Outcome> {
+// The words of a case that has its own.
+fn own_words(alloc: Global, case: Option<&Case>) -> anyhow::Result<Option<Vec<String>>> {
+    match case {
+        Some(case) if case.file.name.as_str() == "words" => {
+            Ok(Some(words_of(alloc, text_of(&case.file.bytes))?))
+        }
+        _ => Ok(None),
+    }
+}
+
+// The files of a call.
+fn shelf_of(alloc: Global, row: &Row, case: Option<&Case>) -> anyhow::Result<MemShelf> {
     let mut shelf = MemShelf::new(alloc);
     for file in &row.files {
         shelf.add(file.name.as_str(), &file.bytes)?;
@@ -24,26 +37,27 @@ fn run(alloc: Global, row: &Row, case: Option<&Case>) -> anyhow::Result<Outcome>
     for call in &row.failing_fetches {
         shelf.fail_at(*call)?;
     }
+    Ok(shelf)
+}
+
+// The one place that makes the top call.
+fn run(
+    alloc: Global,
+    row: &Row,
+    words: &[String],
+    shelf: &mut MemShelf,
+) -> anyhow::Result<Outcome> {
     let mut sink = MemSink::new(alloc);
     for call in &row.failing_puts {
         sink.fail_at(*call)?;
     }
-    let own_words = match case {
-        Some(case) if case.file.name.as_str() == "words" => {
-            Some(words_of(alloc, text_of(&case.file.bytes))?)
-        }
-        _ => None,
-    };
-    let words = match &own_words {
-        Some(words) => words,
-        None => &row.words,
-    };
-    let status = summingbird(alloc, words, &mut shelf, &mut sink);
+    let status = summingbird(alloc, words, shelf, &mut sink);
     let output = sink.bytes().to_vec(alloc)?;
     Ok(Outcome { status, output })
 }
 
-/// Runs a row. Prints `ok` and its title where each call gives what the row wants, and else what differs first.
+/// Runs a row. Prints `ok` and its title where each call gives what the row wants, and the definition's plain program
+/// the same sums; and else what differs first.
 pub fn agrees(rt: &impl Print, alloc: Global, row: &Row) -> anyhow::Result<bool> {
     if row.cases.is_empty() && !call_agrees(rt, alloc, row, None, &row.output)? {
         return Ok(false);
@@ -69,13 +83,35 @@ fn call_agrees(
     case: Option<&Case>,
     wanted: &[u8],
 ) -> anyhow::Result<bool> {
-    let came = run(alloc, row, case)?;
-    if came.status == row.status && came.output.as_slice() == wanted {
+    let own_words = own_words(alloc, case)?;
+    let words = match &own_words {
+        Some(words) => words,
+        None => &row.words,
+    };
+    let mut shelf = shelf_of(alloc, row, case)?;
+    let came = run(alloc, row, words, &mut shelf)?;
+    if came.status != row.status || came.output.as_slice() != wanted {
+        println!(rt; "differs: {}", row.title)?;
+        println!(rt; "  status: wanted {}, came {}", row.status, came.status)?;
+        print_difference(rt, wanted, &came.output)?;
+        return Ok(false);
+    }
+    if row.status != 0 {
         return Ok(true);
     }
+    let mut shelf = shelf_of(alloc, row, case)?;
+    let unlike = first_unlike(alloc, words, &row.files, &mut shelf, wanted);
+    sums_agree(rt, row, unlike.context(format_args!("{}", row.title))?)
+}
+
+// Whether no line of the report is unlike the plain program's, which is said where one is.
+fn sums_agree(rt: &impl Print, row: &Row, unlike: Option<Unlike>) -> anyhow::Result<bool> {
+    let Some(unlike) = unlike else {
+        return Ok(true);
+    };
     println!(rt; "differs: {}", row.title)?;
-    println!(rt; "  status: wanted {}, came {}", row.status, came.status)?;
-    print_difference(rt, wanted, &came.output)?;
+    let sum = text_of(&unlike.sum);
+    println!(rt; "  line {}: by the plain program {sum:?}", unlike.line)?;
     Ok(false)
 }
 

@@ -1,6 +1,6 @@
 //! The sums of a report, once more by the definition's plain program.
 
-use crate::row::{Call, Row};
+use crate::row::File;
 use anyhow::{Context, Result, bail};
 use sb_check::Checked;
 use sb_io::MemShelf;
@@ -9,7 +9,7 @@ use sb_load::{Inputs, load};
 use sb_meaning::slow_fold;
 use sb_text::{Columns, Lines, Ranges};
 use sb_types::read_key;
-use sb_words::{Command, words};
+use sb_words::Command;
 use std::alloc::Global;
 
 // The plain program evaluates the whole log for each line of a report, so longer logs are left out.
@@ -20,30 +20,49 @@ const MOST_LINES: usize = 1_000;
 pub struct Unlike {
     /// The line's number, from 1.
     pub line: u64,
-    /// The plain program's sum, or none.
+    /// The plain program's sum; empty where it has none.
     pub sum: Vec<u8>,
 }
 
-/// The first line of a report whose sum isn't that of the definition's plain program; none where the words are
-/// no `batch` command. The plain program evaluates the whole log for each line.
+/// The first line of a report whose sum isn't that of the definition's plain program. None where the words are no
+/// `batch` command, and where its log among the files is long.
 pub fn first_unlike(
     alloc: Global,
     words: &[String],
+    files: &[File],
     shelf: &mut MemShelf,
     report: &[u8],
 ) -> Result<Option<Unlike>> {
     let Ok(command) = sb_words::words(alloc, words) else {
         return Ok(None);
     };
-    if !matches!(command, Command::Batch { .. }) {
-        return Ok(None);
+    match &command {
+        Command::Batch { log, .. } if lines_of(files, log.as_bytes()) <= MOST_LINES => {}
+        _ => return Ok(None),
     }
     let Ok(inputs) = load(alloc, &command, shelf) else {
         bail!("the inputs of a batch are refused");
     };
+    unlike_in(alloc, &inputs, report)
+}
+
+// How many lines the last file of a name has.
+fn lines_of(files: &[File], name: &[u8]) -> usize {
+    let mut lines = 0;
+    for file in files {
+        if file.name.as_bytes() == name {
+            lines = file.bytes.iter().filter(|byte| **byte == b'\n').count();
+        }
+    }
+    lines
+}
+
+fn unlike_in(alloc: Global, inputs: &Inputs, report: &[u8]) -> Result<Option<Unlike>> {
+    let records = u32::try_from(inputs.log.records().len())?;
+    let all = Ranges::span(alloc, 0, u64::from(records))?;
     for line in Lines::new(report) {
         let number = line.number;
-        let unlike = unlike_sum(alloc, &inputs, line.bytes);
+        let unlike = unlike_sum(alloc, inputs, &all, line.bytes);
         if let Some(sum) = unlike.context(format_args!("line {number} of a report"))? {
             return Ok(Some(Unlike { line: number, sum }));
         }
@@ -52,13 +71,18 @@ pub fn first_unlike(
 }
 
 // The plain program's sum, where it isn't the one of this line of a report.
-fn unlike_sum(alloc: Global, inputs: &Inputs, line: &[u8]) -> Result<Option<Vec<u8>>> {
+fn unlike_sum(
+    alloc: Global,
+    inputs: &Inputs,
+    all: &Ranges,
+    line: &[u8],
+) -> Result<Option<Vec<u8>>> {
     let mut columns = Columns::new(line);
     let store = columns.next().context("no store")?;
     let key = columns.next().context("no key")?;
     let printed = columns.next().context("no sum")?;
-    let c = inputs.program.checked();
-    let sum = sum_text(alloc, inputs, c, store_named(c, store)?, key)?;
+    let store = store_named(inputs.program.checked(), store)?;
+    let sum = sum_text(alloc, inputs, all, store, key)?;
     if sum.as_slice() == printed {
         return Ok(None);
     }
@@ -66,30 +90,28 @@ fn unlike_sum(alloc: Global, inputs: &Inputs, line: &[u8]) -> Result<Option<Vec<
 }
 
 fn store_named(c: &Checked, name: &[u8]) -> Result<u32> {
-    let mut number = 0;
-    for store in c.stores() {
+    for (number, store) in c.stores().iter().enumerate() {
         if store.name.as_bytes() == name {
-            return Ok(number);
+            return Ok(u32::try_from(number)?);
         }
-        number += 1;
     }
     bail!("no such store")
 }
 
-// The text of a key's sum over the whole log; empty where nothing is added.
+// The text of a key's sum over these positions; empty where nothing is added.
 fn sum_text(
     alloc: Global,
     inputs: &Inputs,
-    c: &Checked,
+    take: &Ranges,
     store: u32,
     key: &[u8],
 ) -> Result<Vec<u8>> {
+    let c = inputs.program.checked();
     let declared = c.stores().get(store as usize).context("no such store")?;
     let key = read_key(alloc, &declared.key, key)?.context("no key of the store")?;
-    let all = Ranges::span(alloc, 0, inputs.log.records().len() as u64)?;
-    let log = &inputs.log;
+    let added = slow_fold(alloc, c, &inputs.log, &inputs.services, store, &key, take)?;
     let mut sum = Vec::new(alloc);
-    if let Some(added) = slow_fold(alloc, c, log, &inputs.services, store, &key, &all)? {
+    if let Some(added) = added {
         text(alloc, &declared.kind, &added, &mut sum)?;
     }
     Ok(sum)

@@ -3,6 +3,7 @@
 
 mod checking;
 mod contents;
+mod folding;
 mod reading;
 mod row;
 
