@@ -1,12 +1,12 @@
 -- Ranges put into maximal ranges, and which numbers they cover then.
-use Rattle.std.proofs.Common.{◌≡◌, ℕ, zero, suc, ◌+◌, ◌-◌, ◌^◌, ◌<◌, ◌≤◌, min, max, Bool, true, false, cond, ◌&&◌, ◌||◌, List, [], ◌∷◌, ◌++◌, length, drop, take, set, insert, get_or, add-one, refl, sym, ap, ◌∙◌, arith, eqb, leb, ltb}
-use Rattle.std.specs.List.{AllByRecursion, range_with_len}
+use Rattle.std.proofs.Common.{◌≡◌, ℕ, zero, suc, ◌+◌, ◌-◌, ◌<◌, ◌≤◌, min, max, Bool, true, false, cond, ◌&&◌, ◌||◌, List, [], ◌∷◌, ◌++◌, length, drop, take, set, insert, get_or, add-one, refl, sym, ap, ◌∙◌, arith, eqb, leb, ltb}
+use Rattle.std.specs.List.{range_with_len}
 use Rattle.std.proofs.lemmas.Bool.Decides.{nat_tests}
 use Rattle.std.proofs.lemmas.List.Sorted.{IsNonDecreasingBy-from_default, IsPartitionedBy-ltb}
 use Rattle.std.specs.List.Sorted.{IsPartitionedBy}
 use Rattle.sb_text.specs.MaximalRanges.{IsRange, AreApart, AreMaximal, numbers_in, numbers_of, is_within, is_covered, first_at, last_at, IsPlace}
-use Rattle.sb_text.specs.Ranges.{Range, IsSet, put, union}
-use Rattle.sb_text.proofs.RangeNumbers.{apart_lower, set-numbers_of}
+use Rattle.sb_text.specs.Ranges.{Range, put, union}
+use Rattle.sb_text.proofs.RangeNumbers.{set-numbers_of}
 use Rattle.sb_text.proofs.Sets.{has, has-append, has-put, has-union, or_none, or_swap, rising_put, rising_union, same_set}
 
 -- what ranges that stand apart are at their places

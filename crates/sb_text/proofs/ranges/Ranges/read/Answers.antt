@@ -1,5 +1,4 @@
 use Rattle.std.proofs.Common.{◌≡◌, ◌∙◌, Some, None, ap}
-use Rattle.sb_text.specs.MaximalRanges.{numbers_of}
 use Rattle.sb_text.specs.Ranges.{ranges_of}
 use Rattle.sb_text.specs.RangesRead.{ranges_read}
 use Rattle.sb_text.proofs.RangeNumbers.{numbers-ranges}

@@ -1,5 +1,0 @@
-use Rattle.sb_text.proofs.RangeReads.{cut_found}
-use Rattle.sb_text.proofs.ranges.split_range.Goals as goal
-
-pub returns : goal.returns
-returns c = cut_found c.args.text.now c.split_once.result c.split_once.ensures
