@@ -1,5 +1,5 @@
-//! A row is run through the top call, and what came is compared with what it wants, and each sum of its report with
-//! the plain program's.
+//! A row is run through the top call, and what came is compared with what it wants, and each sum of
+//! its report with the plain program's.
 
 use crate::folding::{Unlike, first_unlike};
 use crate::row::{Case, Row, words_of};
@@ -56,8 +56,8 @@ fn run(
     Ok(Outcome { status, output })
 }
 
-/// Runs a row. Prints `ok` and its title where each call gives what the row wants, and the definition's plain program
-/// the same sums; and else what differs first.
+/// Runs a row. Prints `ok` and its title where each call gives what the row wants, and the
+/// definition's plain program the same sums; and else what differs first.
 pub fn agrees(rt: &impl Print, alloc: Global, row: &Row) -> anyhow::Result<bool> {
     if row.cases.is_empty() && !call_agrees(rt, alloc, row, None, &row.output)? {
         return Ok(false);

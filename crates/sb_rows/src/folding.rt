@@ -24,8 +24,8 @@ pub struct Unlike {
     pub sum: Vec<u8>,
 }
 
-/// The first line of a report whose sum isn't that of the definition's plain program. None where the words are no
-/// `batch` command, and where its log among the files is long.
+/// The first line of a report whose sum isn't that of the definition's plain program. None where the
+/// words are no `batch` command, and where its log among the files is long.
 pub fn first_unlike(
     alloc: Global,
     words: &[String],

@@ -1,4 +1,5 @@
-//! Maximal ranges, each by its first and its last number: where a range goes among them, and what they are with it.
+//! Maximal ranges, each by its first and its last number: where a range goes among them, and how it
+//! is put.
 ghost use Rattle.std.specs.Prelude.{◌≡◌, ◌||◌, ℕ, ◌+◌, ◌-◌, ◌^◌, ◌<◌, ◌≤◌, min, max, ◌∷◌, ◌++◌, IfOk, length, take, drop, vec_len, vec_capacity};
 ghost use Rattle.std.specs.List.{AllByRecursion};
 ghost use Rattle.sb_text.specs.MaximalRanges.{IsRange, AreMaximal, numbers_of, is_within, is_covered, first_at, last_at, IsPlace};
