@@ -176,6 +176,8 @@ impl<E: Drop> Shard<E> {
         ensures not_published { (result
             ≡ Err (ExpireError.NotPublished floor (published_to self.old)))
             ↔ published_to self.old < floor }
+        ensures refused { IfErr result (λ e. (e ≡ ExpireError.NoMemory)
+            ⊎ (e ≡ ExpireError.NotPublished floor (published_to self.old))) }
         ensures err { OnErr result (self.new ≡ self.old) }
     {
         self.offline.expire(alloc, family, floor)
