@@ -1,6 +1,6 @@
 -- The sums of shards, one after the other, make the folds over the whole log.
-use Rattle.std.proofs.Common.{◌≡◌, ℕ, zero, suc, ◌+◌, ◌/◌, ◌%◌, ◌<◌, ◌≤◌, Bool, true, false, cond, ◌&&◌, ◌||◌, List, [], ◌∷◌, ◌++◌, length, map, Option, Some, None, refl, sym, ap, subst, ◌∙◌, arith, append-nil}
-use Rattle.std.specs.Prelude.{nat_lt, nat_le, ◌==◌, slice_index}
+use Rattle.std.proofs.Common.{◌≡◌, ℕ, zero, suc, ◌+◌, ◌/◌, ◌<◌, ◌≤◌, Bool, true, false, cond, ◌&&◌, ◌||◌, List, [], ◌∷◌, ◌++◌, length, map, Option, None, refl, sym, ap, subst, ◌∙◌, arith, append-nil}
+use Rattle.std.specs.Prelude.{nat_lt, ◌==◌, slice_index}
 use Rattle.std.specs.FinMap.{find}
 use Rattle.std.specs.Int.{div_ceil}
 use Rattle.std.specs.List.{AllByRecursion, IsDistinct, range_with_len}
@@ -16,7 +16,7 @@ use Rattle.sb_laws.proofs.Positions.{ap_both, fold_if}
 use Rattle.sb_feed.specs.declared.key.KeyBytes.{KeyBytes}
 use Rattle.sb_feed.specs.Cuts.{CutValue, chunk_count}
 use Rattle.sb_feed.specs.Keys.{key_order, same_key, key_hash, shard_of}
-use Rattle.sb_feed.specs.Places.{batch_at, chunk_at, is_of_shard, is_in, is_named}
+use Rattle.sb_feed.specs.Places.{batch_at, chunk_at, is_in, is_named}
 use Rattle.sb_feed.specs.Jobs.{Record, CutLog, Job, Dictionaries, meant, AreValid, IsRecord, IsLogOf, places_of, log_values, job_fold}
 use Rattle.sb_job.specs.Sums.{HasKeySums, key_sum}
 use Rattle.sb_job.proofs.Growing.{permuted_valid}

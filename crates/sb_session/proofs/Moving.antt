@@ -1,9 +1,9 @@
 -- An event that goes from shard to shard.
-use Rattle.std.proofs.Common.{◌≡◌, ℕ, zero, suc, ◌+◌, ◌<◌, ◌≤◌, Bool, true, false, List, [], ◌∷◌, length, Option, Some, None, refl, sym, ap, subst, ◌∙◌, arith}
+use Rattle.std.proofs.Common.{◌≡◌, ℕ, ◌+◌, ◌<◌, ◌≤◌, Bool, true, false, List, length, Some, refl, sym, ap, subst, ◌∙◌, arith}
 use Rattle.std.specs.Prelude.{slice_get, slice_set, nat_lt, ◌==◌}
 use Rattle.std.proofs.lemmas.Bool.{ltb-true, ltb-false, eqb-true, eqb-false}
 use Rattle.std.proofs.lemmas.Option.{slice_get_within}
-use Rattle.sb_feed.specs.Cuts.{CutValue, chunk_count}
+use Rattle.sb_feed.specs.Cuts.{chunk_count}
 use Rattle.sb_feed.specs.Jobs.{Record, Job, meaning_of}
 use Rattle.sb_feed.specs.Stands.{StandsFor}
 use Rattle.sb_shard.specs.Shards.{ShardValue, shard_sums}

@@ -1,5 +1,5 @@
 -- A shard that stands for a job, after each of its events.
-use Rattle.std.proofs.Common.{◌≡◌, ℕ, zero, suc, ◌+◌, ◌-◌, ◌*◌, ◌<◌, ◌≤◌, Bool, true, false, ◌&&◌, List, [], ◌∷◌, ◌++◌, length, map, Option, Some, None, refl, sym, ap, subst, ◌∙◌, arith}
+use Rattle.std.proofs.Common.{◌≡◌, ℕ, zero, suc, ◌+◌, ◌-◌, ◌*◌, ◌<◌, false, ◌&&◌, List, [], ◌∷◌, length, Some, refl, sym, ap, subst, ◌∙◌, arith}
 use mathlib.Core.Logic.{inl, inr, ◌⊎◌}
 use Rattle.std.specs.Prelude.{max, min, slice_get, slice_index_or, slice_set, Contains}
 use Rattle.std.specs.List.{AllByRecursion, range_with_len}
@@ -11,18 +11,17 @@ use Rattle.sb_feed.specs.declared.key.KeyBytes.{KeyBytes}
 use Rattle.sb_feed.specs.declared.parts.Part.{Part}
 use Rattle.sb_feed.specs.declared.parts.Parcel.{Parcel}
 use Rattle.sb_feed.specs.declared.rows.Rows.{Rows}
-use Rattle.sb_feed.specs.Cuts.{CutValue, chunk_count}
+use Rattle.sb_feed.specs.Cuts.{CutValue}
 use Rattle.sb_feed.specs.Places.{batches_of, is_in}
-use Rattle.sb_feed.specs.Jobs.{Record, CutLog, Job, Dictionaries, meant, Commute, AreValid, IsLogOf, places_of}
+use Rattle.sb_feed.specs.Jobs.{Record, Job, Dictionaries, meant, Commute, AreValid, IsLogOf, places_of}
 use Rattle.sb_feed.specs.Stands.{keyed_values}
-use Rattle.sb_shard.specs.Shards.{ShardValue, shard_sums, published_to, cover_of, floor_of, kept_by}
+use Rattle.sb_shard.specs.Shards.{ShardValue, published_to, cover_of, floor_of, kept_by}
 use Rattle.sb_shard.specs.Events.{FlushKeeps, InstallKeeps, ExpireKeeps, KeepsOnly}
 use Rattle.sb_job.specs.Batches.{AreBatchRows, shard_rows}
 use Rattle.sb_job.specs.Parcels.{shard_parcel}
 use Rattle.sb_job.specs.Emitted.{parts_where, is_between}
-use Rattle.sb_job.proofs.Emitted.{where_valid}
 use Rattle.sb_job.proofs.Shards.{stand_for_shard}
-use Rattle.sb_session.specs.Sessions.{SessionValue, IsShardAt, IsOver, job_by}
+use Rattle.sb_session.specs.Sessions.{SessionValue, IsShardAt, job_by}
 use Rattle.sb_session.specs.Steps.{IsNew, IsNextParcel, IsShardOver, Installs, Moves}
 use Rattle.sb_session.proofs.Covers.{union_next, fresh_next, in_chunks}
 use Rattle.sb_session.proofs.Places.{set_there}

@@ -1,5 +1,5 @@
 -- The steps of an event: shard by shard.
-use Rattle.std.specs.Prelude.{◌≡◌, ℕ, ◌-◌, List, [], Option, Some, slice_get, slice_set}
+use Rattle.std.specs.Prelude.{◌≡◌, ℕ, ◌-◌, List, [], Some, slice_get, slice_set}
 use Rattle.std.specs.List.{range_with_len}
 use Rattle.sb_feed.specs.declared.parts.Parcel.{Parcel}
 use Rattle.sb_feed.specs.declared.rows.Rows.{Rows}
@@ -8,7 +8,7 @@ use Rattle.sb_feed.specs.Jobs.{Record, CutLog, Job, meaning_of}
 use Rattle.sb_feed.specs.Stands.{AreFoldsOf, IsParcelOf, StandsFor}
 use Rattle.sb_shard.specs.Events.{InstallKeeps, KeepsOnly}
 use Rattle.sb_shard.specs.Shards.{ShardValue, shard_sums, published_to, cover_of, floor_of, kept_by}
-use Rattle.sb_session.specs.Sessions.{SessionValue, IsEach, IsShardAt, job_by}
+use Rattle.sb_session.specs.Sessions.{SessionValue, IsShardAt, job_by}
 
 -- nothing was flushed into the shard, or installed
 pub record IsNew {E : Type 0} (shard : ShardValue E) : Type 0 where

@@ -1,4 +1,4 @@
-use Rattle.std.proofs.Common.{◌≡◌, ◌∙◌, length, ap, sym, subst, refl, arith}
+use Rattle.std.proofs.Common.{◌∙◌, length, ap, sym, subst, refl, arith}
 use Rattle.sb_feed.proofs.Indexed.{on_err_of}
 use Rattle.sb_session.specs.Sessions.{StandEach, job_by}
 use Rattle.sb_session.specs.Steps.{IsNextParcel}

@@ -1,5 +1,5 @@
 use Rattle.std.proofs.Common.{◌≡◌, Err, sym, subst, ap, ◌∙◌}
-use Rattle.std.specs.List.{AllByRecursion, range_with_len}
+use Rattle.std.specs.List.{AllByRecursion}
 use Rattle.std.proofs.lemmas.Result.{IfOk-weaker}
 use Rattle.sb_feed.specs.Jobs.{valid_by, add_by}
 use Rattle.sb_feed.proofs.Meant.{stores_add, stores_commute}
