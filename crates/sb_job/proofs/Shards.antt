@@ -1,5 +1,5 @@
--- Rows divided among shards.
-use Rattle.std.proofs.Common.{◌≡◌, ℕ, zero, suc, ◌+◌, ◌<◌, Bool, true, false, cond, ◌&&◌, List, [], ◌∷◌, ◌++◌, length, map, filter, replicate, Vec, Global, Option, Some, None, refl, sym, ap, subst, ◌∙◌, arith, append-nil}
+-- Rows and parcels divided among shards.
+use Rattle.std.proofs.Common.{◌≡◌, ℕ, zero, suc, ◌+◌, ◌%◌, ◌<◌, Bool, true, false, cond, ◌&&◌, List, [], ◌∷◌, ◌++◌, length, map, filter, replicate, Vec, Global, Option, Some, None, refl, sym, ap, subst, ◌∙◌, arith, append-nil}
 use Rattle.std.specs.Prelude.{◌==◌}
 use Rattle.std.specs.FinMap.{find, is_sorted}
 use Rattle.std.specs.FinMap.Entries.{below_all}
@@ -10,16 +10,20 @@ use Rattle.std.proofs.lemmas.Bool.{eqb-true, eqb-false}
 use Rattle.std.proofs.lemmas.List.{length-map}
 use Rattle.std.proofs.lemmas.List.Elements.{filter-append}
 use Rattle.std.proofs.lemmas.List.FromFn.{length-map-range_with_len}
+use Rattle.sb_laws.specs.Folds.{fold_over}
 use Rattle.sb_laws.proofs.Positions.{ap_both, fold_if}
 use Rattle.sb_feed.specs.declared.key.KeyBytes.{KeyBytes}
+use Rattle.sb_feed.specs.declared.parts.Part.{Part}
+use Rattle.sb_feed.specs.declared.parts.Parcel.{Parcel}
 use Rattle.sb_feed.specs.declared.rows.Rows.{Rows}
 use Rattle.sb_feed.specs.Index.{with_item}
-use Rattle.sb_feed.specs.Jobs.{CutLog, Dictionaries, places_of, values_from}
-use Rattle.sb_feed.specs.Keys.{key_order, same_key, shard_of}
-use Rattle.sb_feed.specs.Places.{batch_at}
-use Rattle.sb_feed.specs.Stands.{AreRowsOf}
-use Rattle.sb_feed.proofs.PartSums.{same_is_equal, valid_filter}
+use Rattle.sb_feed.specs.Jobs.{CutLog, Dictionaries, AreValid, places_of, values_from, log_values, log_fold}
+use Rattle.sb_feed.specs.Keys.{key_order, same_key, key_hash, shard_of}
+use Rattle.sb_feed.specs.Places.{batch_at, chunk_at, is_in}
+use Rattle.sb_feed.specs.Stands.{AreRowsOf, IsParcelOf, batch_value, key_values, keyed_values, sum_at}
+use Rattle.sb_feed.proofs.PartSums.{same_is_equal, valid_filter, keyed_filter}
 use Rattle.sb_job.specs.Batches.{AreBatchRows, rows_in, shard_rows}
+use Rattle.sb_job.specs.Parcels.{parts_in, shard_parcel}
 use Rattle.sb_job.specs.Emitted.{is_between}
 
 -- with nothing left to come, all has come
@@ -144,25 +148,48 @@ module _ {E : Type 0} where
     valid = valid_filter _ (λ row. shard_of log.shards row.0 == shard) rows.rows h.valid;
   }
 
-  -- ---- the lists of the shards
+-- ---- the lists of the shards
 
-  -- no row is in them yet
-  pub no_rows : (shards n : ℕ) (lists : List (List (KeyBytes × E))) → n ≡ shards → lists ≡ replicate n [] → lists ≡ map (rows_in shards []) (range_with_len 0 shards)
-  no_rows shards n lists e is = is ∙ (ap (λ k. replicate k []) e ∙ none_each (rows_in shards []) 0 shards (λ s. refl))
+-- a key is of the only shard
+of_only : (shards : ℕ) (key : KeyBytes) → shards ≡ 1 → (shard_of shards key == 0) ≡ true
+of_only shards key one = ap (λ n. key_hash key % n == 0) one ∙ ap (λ n. n == 0) nothing_left
+  where
+    nothing_left : key_hash key % 1 ≡ 0
+    nothing_left = omega arith
 
-  -- a row more in its shard's list
-  pub row_more : (shards : ℕ) (before : List (KeyBytes × E)) (row : KeyBytes × E) (lists now : List (List (KeyBytes × E))) → lists ≡ map (rows_in shards before) (range_with_len 0 shards) → now ≡ with_item (shard_of shards row.0) row lists
-      → now ≡ map (rows_in shards (before ++ row ∷ [])) (range_with_len 0 shards)
-  row_more shards before row lists now h is =
-      is ∙ (ap (with_item (shard_of shards row.0) row) h
-      ∙ item_more (rows_in shards before) (rows_in shards (before ++ row ∷ [])) (shard_of shards row.0) (shard_of shards row.0) 0 shards row (omega arith)
-      (λ s. filter-append (λ (x : KeyBytes × E). shard_of shards x.0 == s) before (row ∷ [])))
+-- the one item of the one number
+pub only_made : {X : Type 0} (f : ℕ → X) (n : ℕ) (x : X) → n ≡ 1 → f 0 ≡ x → x ∷ [] ≡ map f (range_with_len 0 n)
+only_made f n x one is = ap (λ y. y ∷ []) (sym is) ∙ ap (λ k. map f (range_with_len 0 k)) (sym one)
+
+-- items that have a key
+module _ {X : Type 0} (key : X → KeyBytes) where
+  -- those of the shard with a number
+  abbrev pub items_in : ℕ → List X → ℕ → List X
+  items_in shards items shard = filter (λ x. shard_of shards (key x) == shard) items
+
+  -- with one shard they are all
+  pub all_of_one : (shards : ℕ) (items : List X) → shards ≡ 1 → items_in shards items 0 ≡ items
+  all_of_one shards [] one = refl
+  all_of_one shards (x ∷ items) one = ap (λ t. cond t (x ∷ items_in shards items 0) (items_in shards items 0)) (of_only shards (key x) one) ∙ ap (λ l. x ∷ l) (all_of_one shards items one)
+
+  -- no item is in the lists yet
+  pub no_items : (shards n : ℕ) (lists : List (List X)) → n ≡ shards → lists ≡ replicate n [] → lists ≡ map (items_in shards []) (range_with_len 0 shards)
+  no_items shards n lists e is = is ∙ (ap (λ k. replicate k []) e ∙ none_each (items_in shards []) 0 shards (λ s. refl))
+
+  -- an item more in its shard's list
+  pub shard_more : (shards : ℕ) (before : List X) (x : X) (lists now : List (List X)) → lists ≡ map (items_in shards before) (range_with_len 0 shards) → now ≡ with_item (shard_of shards (key x)) x lists
+      → now ≡ map (items_in shards (before ++ x ∷ [])) (range_with_len 0 shards)
+  shard_more shards before x lists now h is =
+      is ∙ (ap (with_item (shard_of shards (key x)) x) h
+      ∙ item_more (items_in shards before) (items_in shards (before ++ x ∷ [])) (shard_of shards (key x)) (shard_of shards (key x)) 0 shards x (omega arith)
+      (λ s. filter-append (λ y. shard_of shards (key y) == s) before (x ∷ [])))
 
   -- there is one list a shard
-  pub lists_count : (shards : ℕ) (rows : List (KeyBytes × E)) (lists : List (Vec (KeyBytes × E) Global)) → map (λ list. list.items) lists ≡ map (rows_in shards rows) (range_with_len 0 shards) → length lists ≡ shards
-  lists_count shards rows lists h = omega (arith, length-map lists (λ (list : Vec (KeyBytes × E) Global). list.items), ap length h, length-map-range_with_len (rows_in shards rows) 0 shards)
+  pub lists_count : (shards : ℕ) (items : List X) (lists : List (Vec X Global)) → map (λ list. list.items) lists ≡ map (items_in shards items) (range_with_len 0 shards) → length lists ≡ shards
+  lists_count shards items lists h = omega (arith, length-map lists (λ (list : Vec X Global). list.items), ap length h, length-map-range_with_len (items_in shards items) 0 shards)
 
-  -- each list rises
+module _ {E : Type 0} where
+  -- each list of rows rises
   pub lists_rise : (shards : ℕ) (rows : List (KeyBytes × E)) (lists : List (Vec (KeyBytes × E) Global)) → is_sorted key_order rows ≡ true → map (λ list. list.items) lists ≡ map (rows_in shards rows) (range_with_len 0 shards)
       → AllByRecursion (λ list. is_sorted key_order list.items ≡ true) lists
   lists_rise shards rows lists up h =
@@ -172,3 +199,55 @@ module _ {E : Type 0} where
   pub lists_are : (shards : ℕ) (rows : Rows E) (lists : List (Vec (KeyBytes × E) Global)) (split : List (Rows E)) → map (λ list. list.items) lists ≡ map (rows_in shards rows.rows) (range_with_len 0 shards)
       → split ≡ map (λ list. record { from = rows.from; to = rows.to; rows = list.items }) lists → split ≡ map (shard_rows shards rows) (range_with_len 0 shards)
   lists_are shards rows lists split h is = is ∙ of_lists (λ l. record { from = rows.from; to = rows.to; rows = l }) (rows_in shards rows.rows) (range_with_len 0 shards) lists h
+
+  -- the lists are the parcels of the shards
+  pub parcels_are : (shards : ℕ) (parcel : Parcel E) (lists : List (Vec (Part E) Global)) (split : List (Parcel E)) → map (λ list. list.items) lists ≡ map (parts_in shards parcel.parts) (range_with_len 0 shards)
+      → split ≡ map (λ list. record { chunks = parcel.chunks; parts = list.items }) lists → split ≡ map (shard_parcel shards parcel) (range_with_len 0 shards)
+  parcels_are shards parcel lists split h is = is ∙ of_lists (λ l. record { chunks = parcel.chunks; parts = l }) (parts_in shards parcel.parts) (range_with_len 0 shards) lists h
+
+-- ---- parts that pass a test
+
+module _ {E : Type 0} where
+  valued : (key : KeyBytes) (part : Part E) (parts : List (Part E)) (p : Bool) → key_values key (cond p (part ∷ parts) parts) ≡ cond p (cond (same_key key part.key) (batch_value part ∷ key_values key parts) (key_values key parts)) (key_values key parts)
+  valued key part parts true = elim (same_key key part.key) as (λ b. map batch_value (cond b (part ∷ filter (λ p. same_key key p.key) parts) (filter (λ p. same_key key p.key) parts)) ≡ cond b (batch_value part ∷ key_values key parts) (key_values key parts)) [
+    | true ↦ refl
+    | false ↦ refl
+  ]
+  valued key part parts false = refl
+
+  value_case : (p s q : Bool) (x : ℕ × E) (xs : List (ℕ × E)) → (s ≡ true → q ≡ p) → cond p (cond s (x ∷ cond q xs []) (cond q xs [])) (cond q xs []) ≡ cond q (cond s (x ∷ xs) xs) []
+  value_case true true q x xs h = (let is : q ≡ true = h refl in ap (λ t. x ∷ cond t xs []) is ∙ ap (λ t. cond t (x ∷ xs) []) (sym is))
+  value_case true false q x xs h = refl
+  value_case false true true x xs h = (let no : true ≡ false = h refl in cc)
+  value_case false true false x xs h = refl
+  value_case false false q x xs h = refl
+
+  -- the values of a key in the parts whose keys pass
+  values_passing : (passes : KeyBytes → Bool) (key : KeyBytes) (parts : List (Part E)) → key_values key (filter (λ part. passes part.key) parts) ≡ cond (passes key) (key_values key parts) []
+  values_passing passes key [] = nothing (passes key)
+    where
+      nothing : (t : Bool) → [] ≡ cond {A = List (ℕ × E)} t [] []
+      nothing true = refl
+      nothing false = refl
+  values_passing passes key (part ∷ parts) =
+      valued key part (filter (λ p. passes p.key) parts) (passes part.key)
+      ∙ (ap (λ l. cond (passes part.key) (cond (same_key key part.key) (batch_value part ∷ l) l) l) (values_passing passes key parts)
+      ∙ (value_case (passes part.key) (same_key key part.key) (passes key) (batch_value part) (key_values key parts) (λ e. ap passes (same_is_equal key part.key e))
+      ∙ ap (λ l. cond (passes key) l []) (sym (valued key part parts true))))
+
+  over_passing : (add : E → E → E) (t : Bool) (xs : List (ℕ × E)) (s : ℕ → Bool) → fold_over add (cond t xs []) s ≡ cond t (fold_over add xs s) None
+  over_passing add true xs s = refl
+  over_passing add false xs s = refl
+
+  -- the parcel of a shard stands for it, in any log for whose keys of each shard the parts stand
+  pub parcel_for_shard : (d : Dictionaries E) (log : CutLog E) (parcel : Parcel E) (shard : ℕ) → AreValid d (keyed_values parcel.parts)
+      → ((key : KeyBytes) (j : ℕ) → sum_at d.add key j parcel.parts ≡ log_fold d.add log key (λ i. batch_at (places_of log) i == j && is_in parcel.chunks (chunk_at (places_of log) i)))
+      → IsParcelOf d log shard (shard_parcel log.shards parcel shard)
+  parcel_for_shard d log parcel shard valid sums = record {
+    sums = λ key j there.
+        ap (λ l. fold_over (d.add key.store) l (λ b. b == j)) (values_passing (λ k. shard_of log.shards k == shard) key parcel.parts)
+        ∙ (over_passing (d.add key.store) (shard_of log.shards key == shard) (key_values key parcel.parts) (λ b. b == j)
+        ∙ (ap (λ o. cond (shard_of log.shards key == shard) o None) (sums key j)
+        ∙ sym (fold_if (d.add key.store) (log_values log key) (shard_of log.shards key == shard) (λ i. batch_at (places_of log) i == j && is_in parcel.chunks (chunk_at (places_of log) i)))));
+    valid = keyed_filter d (λ part. shard_of log.shards part.key == shard) parcel.parts valid;
+  }

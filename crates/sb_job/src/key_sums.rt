@@ -185,6 +185,7 @@ impl<E> KeySums<E> {
             → HasKeySums (meant F.M.valid F.M.add (F.monoids family.now)) values self.old
             → HasKeySums (meant F.M.valid F.M.add (F.monoids family.now)) (values ++ more)
             self.new) }
+        ensures apart { OnOk result (IsDistinct same_key (keys_of more)) }
     {
         let values = entries_of(alloc, more.sums)?;
         self.add_values(alloc, family, values)

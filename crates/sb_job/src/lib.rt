@@ -14,4 +14,4 @@ pub use jobs::job;
 pub use key_set::KeySet;
 pub use key_sums::KeySums;
 pub use lists::{drop_first, up_to};
-pub use splitting::split_rows;
+pub use splitting::{split_parcel, split_rows};

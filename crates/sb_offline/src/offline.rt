@@ -1,5 +1,5 @@
 //! The offline store, and what changes it.
-ghost use Rattle.std.specs.Prelude.{◌≡◌, ◌↔◌, ◌<◌, ◌≤◌, ◌+◌, ◌++◌, ◌∷◌, ◌||◌, ℕ, [], length, IsTrue, Err, OnOk, OnErr, IfOk};
+ghost use Rattle.std.specs.Prelude.{◌≡◌, ◌⊎◌, ◌↔◌, ◌<◌, ◌≤◌, ◌+◌, ◌++◌, ◌∷◌, ◌||◌, ℕ, [], length, IsTrue, Err, OnOk, OnErr, IfOk, IfErr};
 ghost use Rattle.std.specs.FinMap.{is_sorted};
 ghost use Rattle.std.specs.List.{AllByRecursion, list_any};
 ghost use Rattle.std.specs.Ordering.{nat_cmp};
@@ -116,6 +116,8 @@ impl<E: Drop> Offline<E> {
         ensures not_published { (result
             ≡ Err (ExpireError.NotPublished floor (published_to self.old)))
             ↔ published_to self.old < floor }
+        ensures refused { IfErr result (λ e. (e ≡ ExpireError.NoMemory)
+            ⊎ (e ≡ ExpireError.NotPublished floor (published_to self.old))) }
         ensures err { OnErr result (self.new ≡ self.old) }
     {
         let published = self.published();

@@ -8,6 +8,7 @@ pub mod Reports
 pub mod Sends
 pub mod Serving
 pub mod Settling
+pub mod Sharded
 pub mod StoreReport
 pub mod Stores
 pub mod TranscriptExamples

@@ -1,11 +1,7 @@
 -- The lines that a session answers.
-use Rattle.std.proofs.Common.{◌≡◌, ℕ, ◌-◌, ◌<◌, ◌≤◌, List, length, refl, ap, ◌∙◌, arith}
-use Rattle.std.specs.Prelude.{nat_lt, Bool, true, false}
+use Rattle.std.proofs.Common.{◌≡◌, ℕ, ◌-◌, List, length, ap, ◌∙◌}
 use Rattle.std.specs.List.{range_with_len}
-use Rattle.std.proofs.lemmas.Bool.{ltb-true, ltb-false}
 use Rattle.std.proofs.lemmas.List.FromFn.{length-range_with_len}
-use Rattle.sb_feed.specs.Cuts.{CutValue, IsCut, chunk_count}
-use Rattle.sb_feed.specs.Limits.{most_chunks, most_records_of_a_chunk}
 use Rattle.sb_report.specs.declared.line.TranscriptLine.TheVariants.{Read, Worked}
 
 pub same_read : (store : ℕ) (key : List ℕ) (floor : ℕ) (v w : List ℕ) (p q : ℕ) (c d : List ℕ) → v ≡ w → p ≡ q → c ≡ d → Read store key v p floor c ≡ Read store key w q floor d
@@ -16,11 +12,3 @@ same_work w n m count chunks same are is =
     let all = are ∙ ap (λ k. range_with_len w (k - w)) same in
     let number = is ∙ (ap length all ∙ length-range_with_len w (m - w)) in
     λ i. Worked (number i) (all i)
-
--- a log for which no cut is made has too many chunks
-pub no_cut : (cut : CutValue) → (1 ≤ cut.chunk) × (cut.chunk ≤ most_records_of_a_chunk) → cut.shards ≡ 1 → (IsCut cut → ⊥) → most_chunks < chunk_count cut
-no_cut cut chunk one none = either (nat_lt most_chunks (chunk_count cut)) refl
-  where
-    either : (b : Bool) → nat_lt most_chunks (chunk_count cut) ≡ b → most_chunks < chunk_count cut
-    either true e = ltb-true _ _ e
-    either false e = absurd (none (record { chunk = chunk; shards = (omega (arith, one), omega (arith, one)); chunks = ltb-false _ _ e }))

@@ -65,7 +65,7 @@ run_is c log services n (suc k) (e ∷ stores) d is = run_is c log services (suc
 
 -- ---- a runner that runs a program's log
 
-module _ (c : CheckedProgram) (log : List Logged) (services : List Rows) (runner : RunnerValue) (runs : Runs c log services runner) (cut : CutValue) (shards : cut.shards ≡ 1) where
+module _ (c : CheckedProgram) (log : List Logged) (services : List Rows) (runner : RunnerValue) (runs : Runs c log services runner) (cut : CutValue) where
   stores_length : length runner.stores.monoids ≡ length c.declared.stores
   stores_length = same_length online_monoid (λ s. s.monoid) runner.stores.monoids c.declared.stores runs.stores.monoids
 
@@ -80,7 +80,7 @@ module _ (c : CheckedProgram) (log : List Logged) (services : List Rows) (runner
       job_fold_by add k key passes = fold_over add (values_from (record { store = k; text = key }) 0 runner.records) passes
 
   values_same : (k : ℕ) → k < length c.declared.stores → (key : List ℕ) (passes : ℕ → Bool)
-      → value_in (run_of c cut.chunk 1 log services).stores k key passes ≡ fold_text element_text (job_fold online_add (job_in runner cut) (record { store = k; text = key }) passes)
+      → value_in (run_of c cut.chunk cut.shards log services).stores k key passes ≡ fold_text element_text (job_fold online_add (job_in runner cut) (record { store = k; text = key }) passes)
   values_same k less key passes =
       let d = there c.declared.stores k less in
       value_at (store_runs c log services 0 c.declared.stores) k (store_run c log services k d.0) (run_is c log services 0 k c.declared.stores d.0 d.1 ∙ ap (λ m. Some (store_run c log services m d.0)) (omega arith)) key passes
@@ -106,7 +106,7 @@ module _ (c : CheckedProgram) (log : List Logged) (services : List Rows) (runner
   )
 
   report_same : (rows : List (KeyBytes × Agg)) → IsTrue (is_sorted key_order rows) → AreAllRows online_valid online_add (job_in runner cut) rows
-      → flat_map (runner_row runner) rows ≡ report_text (run_of c cut.chunk 1 log services)
+      → flat_map (runner_row runner) rows ≡ report_text (run_of c cut.chunk cut.shards log services)
   report_same rows rising all =
       rows_are_reports (printed_row (name_at runner.stores.names) (λ store. element_text)) 0 (store_runs c log services 0 c.declared.stores) rows
       (texts_from runner.stores.names 0 c.declared.stores (λ k. ap (λ names. name_at names (0 + k)) runs.stores.names ∙ ap (λ m. name_at (map (λ s. s.name) c.declared.stores) m) (omega arith)))
@@ -121,9 +121,9 @@ module _ (c : CheckedProgram) (log : List Logged) (services : List Rows) (runner
             ∙ sym (ap (λ x. fold_of x.add x.emissions key everywhere) d.2)));
       })
 
-  pub serves : Serves c runner cut (run_of c cut.chunk 1 log services)
+  pub serves : Serves c runner cut (run_of c cut.chunk cut.shards log services)
   serves = record {
-    places = λ i. record { batches = runs.batches i; chunk = cut.chunk; shards = shards i };
+    places = λ i. record { batches = runs.batches i; chunk = cut.chunk; shards = cut.shards };
     stores = stores_length;
     names = λ i k. (names_same c log services 0 k c.declared.stores ∙ declared_name k c.declared.stores) i;
     values = values_same;

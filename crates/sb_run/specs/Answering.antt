@@ -13,12 +13,12 @@ use Rattle.sb_kind.specs.declared.dictionary.OnlineM.{OnlineM}
 use Rattle.sb_plan.specs.Runners.{RunnerValue, name_at, online_add, online_valid}
 use Rattle.sb_report.specs.Report.{fold_text, printed_row}
 use Rattle.sb_report.specs.Transcript as report
-use Rattle.sb_session.specs.Sessions.{SessionValue, IsOver, AreAllRows, job_by, published_by, floor_by}
+use Rattle.sb_session.specs.Sessions.{SessionValue, IsOver, AreAllRows, job_by}
 use Rattle.sb_run.specs.Run.{Run, report_text, store_name, value_in}
 use Rattle.sb_run.specs.ScriptOutput.{Progress}
 
 abbrev pub progress : SessionValue Agg → Progress
-progress session = record { worked = session.worked; published = published_by session; floor = floor_by session }
+progress session = record { worked = session.worked; published = session.published; floor = session.floor }
 
 -- what the dictionaries of a live run mean
 abbrev pub online : RunnerValue → Dictionaries Agg

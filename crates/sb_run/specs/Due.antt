@@ -34,11 +34,11 @@ usage_answer = record { status = 2; bytes = codes "error 2 usage\n" }
 abbrev pub unserved_answer : Answer
 unserved_answer = record { status = 2; bytes = codes "error 2 notyet\n" }
 
--- `check`, `batch`, and `run` without workers and publisher, with one shard
+-- `check`, `batch`, and `run` without workers and publisher
 abbrev pub is_served : Command → Bool
 is_served (Check program) = true
 is_served (Batch program log services) = true
-is_served (Live program log script services settings) = settings.workers == 0 && (settings.shards == 1 && not settings.publisher)
+is_served (Live program log script services settings) = settings.workers == 0 && not settings.publisher
 is_served (Audit program log script judged services chunk shards) = false
 is_served (Demo seed records workers) = false
 

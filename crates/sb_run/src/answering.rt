@@ -16,7 +16,6 @@ ghost use Rattle.sb_report.specs.declared.script.Ask.TheVariants as ask;
 ghost use Rattle.sb_run.specs.Answering.{progress, online, runner_row, IsOverFeed, Serves};
 ghost use Rattle.sb_run.specs.Run.{Run, good_value, report_text};
 ghost use Rattle.sb_run.specs.ScriptOutput.{after, answer_line, cover_at, lines_text, script_lines, start, run_text};
-ghost use Rattle.sb_session.specs.Sessions.{published_by, floor_by};
 
 use sb_check::Checked;
 use sb_feed::{Cut, KeyBytes, RowList};
@@ -43,14 +42,13 @@ pub fn answer_all<K: Sink>(
     ghost run: { Run Agg }
     requires serves { Serves (checked_of c.now) feed.now cut run }
     requires records { cut.records ≡ length feed.now.records }
-    requires one { cut.shards ≡ 1 }
     requires stores { AllByRecursion (AsksOf (length (checked_of c.now).declared.stores))
         asks.items }
     ensures ok { OnOk result (Appends (run_text run asks.items) (K.written sink.old) (K.written
         sink.new)) }
     ensures cause { HasSinkCause (K.faults sink.old) (K.faults sink.new) result }
 {
-    let mut session = session_over(alloc, feed, cut);
+    let mut session = session_over(alloc, feed, cut).map_err(|_| SinkError::NoMemory)?;
     put_script(alloc, sink, c, feed, &mut session, asks)?;
     put_line(alloc, sink, c, &TranscriptLine::Drained)?;
     put_report(alloc, sink, c, feed, session)?;
@@ -81,12 +79,11 @@ fn put_script<K: Sink>(
     put_answers(alloc, sink, c, feed, session, asks)
 }
 
-fn session_over(alloc: Global, feed: &OnlineRunner, cut: Cut) -> Session<Agg>
+fn session_over(alloc: Global, feed: &OnlineRunner, cut: Cut) -> Result<Session<Agg>, NoMemory>
     requires records { cut.records ≡ length feed.now.records }
-    requires one { cut.shards ≡ 1 }
-    ensures over { IsOverFeed feed.now result }
-    ensures cut { result.cut ≡ cut }
-    ensures start { progress result ≡ start }
+    ensures over { IfOk result (IsOverFeed feed.now) }
+    ensures cut { IfOk result (λ session. session.cut ≡ cut) }
+    ensures start { IfOk result (λ session. progress session ≡ start) }
 {
     Session::new(alloc, feed, cut)
 }
@@ -164,7 +161,7 @@ fn answer(
         Ask::Read { store, key } => read(alloc, c, feed, session, store, key),
         Ask::Asof { batch, store, key } => asof(alloc, c, feed, session, batch, store, key),
         Ask::Look => Ok(TranscriptLine::Flushed {
-            chunks: session.cover().copy()?,
+            chunks: session.cover(alloc)?,
         }),
         Ask::Work { most } => work(alloc, c, feed, session, most),
         Ask::Publish { upto } => publish(alloc, c, feed, session, upto),
@@ -252,9 +249,9 @@ fn value_at(
     requires serves { Serves (checked_of c.now) feed.now session.now.cut run }
     requires over { IsOverFeed feed.now session.now }
     requires store { key.now.store < length (checked_of c.now).declared.stores }
-    requires open { floor_by session.now ≤ upto + 1 }
+    requires open { session.now.floor ≤ upto + 1 }
     ensures value { IfOk result (λ read. read.0 ≡ good_value run key.now.store upto key.now.text
-        (published_by session.now) (cover_at (progress session.now))) }
+        session.now.published (cover_at (progress session.now))) }
     ensures cover { IfOk result (λ read. read.1 ≡ cover_at (progress session.now)) }
 {
     let reading = session.read(alloc, feed, key, upto)?;

@@ -12,5 +12,5 @@ mod top;
 
 pub use batch::batch_command;
 pub use check::check_command;
-pub use laws::script_output_is_transcript;
+pub use laws::{script_output_is_transcript, shards_are_not_written};
 pub use top::summingbird;

@@ -3,14 +3,14 @@ ghost use Rattle.std.specs.Prelude.{◌≡◌, ◌≤◌, true, Some, length, ma
 ghost use Rattle.std.specs.List.{AllByRecursion};
 ghost use Rattle.sb_check.specs.LogView.{view_log};
 ghost use Rattle.sb_check.specs.OnlineView.{online_of};
-ghost use Rattle.sb_feed.specs.Limits.{most_records_of_a_chunk};
+ghost use Rattle.sb_feed.specs.Limits.{most_records_of_a_chunk, most_shards};
 ghost use Rattle.sb_io.specs.Sink.{Appends, HasSinkCause};
 ghost use Rattle.sb_load.specs.Commands.{chunk_of};
 ghost use Rattle.sb_load.specs.Inputs.{chunks_fit};
 ghost use Rattle.sb_load.specs.Steps.{HavePlaces, IsAdmitted, inputs_of, loaded_of, records_of};
 ghost use Rattle.sb_report.specs.Script.{AsksOf};
 ghost use Rattle.sb_run.specs.Call.{Keeps};
-ghost use Rattle.sb_run.specs.Commands.{IsServedRun};
+ghost use Rattle.sb_run.specs.Commands.{IsServedRun, shards_of};
 ghost use Rattle.sb_kind.specs.declared.agg.Agg.{Agg};
 ghost use Rattle.sb_run.specs.Run.{Run, run_of};
 ghost use Rattle.sb_run.specs.ScriptOutput.{run_text};
@@ -44,9 +44,10 @@ pub fn run_command<H: Shelf, K: Sink>(
         (K.faults sink.old) (K.faults sink.new) result }
 {
     let chunk = chunk_in(command);
+    let shards = shards_in(command);
     match load(alloc, command, shelf) {
         Ok(inputs) => {
-            let put = put_transcript(alloc, sink, chunk, inputs);
+            let put = put_transcript(alloc, sink, chunk, shards, inputs);
             status_of(sink, put)
         }
         Err(refusal) => put_refusal(sink, &refusal),
@@ -64,20 +65,35 @@ fn chunk_in(command: &Command) -> u64
     }
 }
 
+// The number of shards.
+fn shards_in(command: &Command) -> u32
+    requires within { IsWithin command.now }
+    ensures number { result ≡ shards_of command.now }
+    ensures limits { (1 ≤ result) × (result ≤ most_shards) }
+{
+    match command {
+        Command::Run { settings, .. } => settings.shards,
+        Command::Audit { shards, .. } => *shards,
+        _ => 1,
+    }
+}
+
 fn put_transcript<K: Sink>(
     alloc: Global,
     sink: &mut K,
     chunk: u64,
+    shards: u32,
     inputs: Inputs,
 ) -> Result<(), SinkError>
     requires chunk { (1 ≤ chunk) × (chunk ≤ most_records_of_a_chunk) }
+    requires shards { (1 ≤ shards) × (shards ≤ most_shards) }
     requires admitted { IsAdmitted true inputs.program }
     requires placed { HavePlaces 0 (records_of inputs.log) }
     requires batching { (view_log inputs.log).batching ≡ (loaded_of inputs.program).batching }
     requires fits { chunks_fit (Some chunk) (length (records_of inputs.log)) ≡ true }
     requires stores { AllByRecursion (AsksOf (length (loaded_of inputs.program).declared.stores))
         inputs.script.items }
-    ensures ok { OnOk result (Appends (run_text (run_of (inputs_of inputs).program chunk 1
+    ensures ok { OnOk result (Appends (run_text (run_of (inputs_of inputs).program chunk shards
         (inputs_of inputs).records (inputs_of inputs).services) (inputs_of inputs).asks)
         (K.written sink.old) (K.written sink.new)) }
     ensures cause { HasSinkCause (K.faults sink.old) (K.faults sink.new) result }
@@ -97,6 +113,7 @@ fn put_transcript<K: Sink>(
                 &log,
                 services.as_slice(),
                 chunk,
+                shards,
                 script,
             )
         }
@@ -111,12 +128,14 @@ fn answer_script<K: Sink>(
     log: &Log,
     services: &[Service],
     chunk: u64,
+    shards: u32,
     asks: Vec<Ask>,
 ) -> Result<(), SinkError>
     ghost run: { Run Agg }
-    requires run { run ≡ run_of (online_of program.now) chunk 1 (records_of log.now)
+    requires run { run ≡ run_of (online_of program.now) chunk shards (records_of log.now)
         (map view_service services.now) }
     requires chunk { (1 ≤ chunk) × (chunk ≤ most_records_of_a_chunk) }
+    requires shards { (1 ≤ shards) × (shards ≤ most_shards) }
     requires placed { HavePlaces 0 (records_of log.now) }
     requires batching { (view_log log.now).batching ≡ (online_of program.now).batching }
     requires fits { chunks_fit (Some chunk) (length (records_of log.now)) ≡ true }
@@ -130,8 +149,8 @@ fn answer_script<K: Sink>(
         Ok(feed) => feed,
         Err(_) => return Err(SinkError::NoMemory),
     };
-    let Some(cut) = Cut::new(feed.len(), chunk, 1) else {
-        return Err(SinkError::NoMemory);
+    let Some(cut) = Cut::new(feed.len(), chunk, shards) else {
+        unreachable!()
     };
     answer_all(alloc, sink, program.checked(), &feed, cut, asks)
 }

@@ -75,10 +75,9 @@ fn is_served(command: &Command) -> bool
     }
 }
 
-// A run without workers and publisher, with one shard.
+// A run without workers and publisher.
 fn are_served(settings: &Settings) -> bool
-    ensures { result ≡ (settings.now.workers == 0
-        && (settings.now.shards == 1 && not settings.now.publisher)) }
+    ensures { result ≡ (settings.now.workers == 0 && not settings.now.publisher) }
 {
-    settings.workers == 0 && settings.shards == 1 && !settings.publisher
+    settings.workers == 0 && !settings.publisher
 }

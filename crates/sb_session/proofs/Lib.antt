@@ -1,4 +1,9 @@
 pub mod Covers
 pub mod Emitted
+pub mod Merged
+pub mod Moving
+pub mod Outcomes
 pub mod Over
+pub mod Places
 pub mod Sessions
+pub mod Stands

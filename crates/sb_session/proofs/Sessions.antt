@@ -1,35 +1,27 @@
--- The parts that a session works and the rows that it publishes stand for their chunks and batches.
-use Rattle.std.proofs.Common.{◌≡◌, ℕ, suc, ◌+◌, ◌%◌, ◌<◌, ◌≤◌, Bool, true, false, cond, ◌&&◌, List, [], ◌∷◌, ◌++◌, length, map, filter, refl, sym, ap, subst, ◌∙◌, arith}
+-- The parts that a session works stand for their chunks.
+use Rattle.std.proofs.Common.{◌≡◌, ℕ, suc, ◌+◌, ◌<◌, ◌≤◌, Bool, true, false, cond, ◌&&◌, List, [], ◌∷◌, ◌++◌, length, map, filter, refl, sym, ap, subst, ◌∙◌, arith}
 use Rattle.std.specs.Prelude.{◌==◌}
 use Rattle.std.specs.List.{AllByRecursion}
 use Rattle.sb_laws.specs.Sums.{sum_of}
 use Rattle.sb_laws.specs.Folds.{fold_over}
 use Rattle.sb_laws.specs.Tables.{values_at}
-use Rattle.sb_laws.proofs.Positions.{fold_same}
 use Rattle.sb_feed.specs.declared.key.KeyBytes.{KeyBytes}
 use Rattle.sb_feed.specs.declared.parts.Part.{Part}
-use Rattle.sb_feed.specs.declared.rows.Rows.{Rows}
 use Rattle.sb_feed.specs.Jobs.{Record, CutLog, Dictionaries, AreValid, IsLogOf, places_of, values_from, log_values, log_fold}
-use Rattle.sb_feed.specs.Places.{Places, batch_at, chunk_at, is_of_shard, is_in}
-use Rattle.sb_feed.specs.Keys.{key_order, key_hash}
-use Rattle.sb_feed.specs.Stands.{sum_at, keyed_values, IsParcelOf, AreRowsBy}
+use Rattle.sb_feed.specs.Places.{batch_at, chunk_at, is_in}
+use Rattle.sb_feed.specs.Keys.{key_order}
+use Rattle.sb_feed.specs.Stands.{sum_at, keyed_values, IsParcelOf}
 use Rattle.sb_feed.proofs.PartSums.{fold_filter}
-use Rattle.sb_job.specs.Batches.{AreBatchRows}
-use Rattle.sb_job.specs.Emitted.{parts_where, is_between}
+use Rattle.sb_job.specs.Parcels.{shard_parcel}
+use Rattle.sb_job.specs.Emitted.{parts_where}
 use Rattle.sb_job.proofs.Emitted.{log_batches, values_where, values_placed, where_valid}
+use Rattle.sb_job.proofs.Shards.{parcel_for_shard}
 
 filter_where : {A : Type 0} (s t : A → Bool) (xs : List A) → AllByRecursion (λ x. s x ≡ t x) xs → filter s xs ≡ filter t xs
 filter_where s t [] h = refl
 filter_where {A = A} s t (x ∷ xs) h = ap (λ (b : Bool). cond b (x ∷ filter s xs) (filter s xs)) h.0 ∙ ap (λ (l : List A). cond (t x) (x ∷ l) l) (filter_where s t xs h.1)
 
--- with one shard every key is its own
-pub of_one_shard : (places : Places) (key : KeyBytes) → places.shards ≡ 1 → is_of_shard places 0 key ≡ true
-of_one_shard places key one = ap (λ n. key_hash key % n == 0) one ∙ ap (λ n. n == 0) nothing_left
-  where
-    nothing_left : key_hash key % 1 ≡ 0
-    nothing_left = omega arith
-
-and_turn : (x y : Bool) → (x && y) ≡ (true && (y && x))
+and_turn : (x y : Bool) → (x && y) ≡ (y && x)
 and_turn true true = refl
 and_turn true false = refl
 and_turn false true = refl
@@ -70,20 +62,11 @@ module _ {E : Type 0} where
       ∙ (ap (sum_of (add key.store)) (values_placed b (filter (λ x. b x.0 == j) xs))
       ∙ fold_filter (add key.store) passes (λ i. b i == j) (log_values log key)))
 
-  -- the parts at the positions of chunks stand for these, where there is one shard
-  pub is_parcel : (d : Dictionaries E) (log : CutLog E) (passes : ℕ → Bool) (chunks : List ℕ) (parts : List (Part E)) → IsLogOf d log → log.shards ≡ 1 → parts ≡ parts_where passes 0 log.records
-      → ((i : ℕ) → i < length log.records → passes i ≡ is_in chunks (chunk_at (places_of log) i)) → IsParcelOf d log 0 (record { chunks = chunks; parts = parts })
-  is_parcel d log passes chunks parts valid one are same = record {
-    sums = λ key j there. ap (sum_at d.add key j) are ∙ (sum_where d.add log passes key j
-        ∙ fold_where (d.add key.store) log key (λ i. passes i && (batch_at (places_of log) i == j)) (λ i. is_of_shard (places_of log) 0 key && (batch_at (places_of log) i == j && is_in chunks (chunk_at (places_of log) i)))
-        (λ i less. and_turn (passes i) (batch_at (places_of log) i == j) ∙ (ap (λ t. true && (batch_at (places_of log) i == j && t)) (same i less)
-        ∙ ap (λ o. o && (batch_at (places_of log) i == j && is_in chunks (chunk_at (places_of log) i))) (sym (of_one_shard (places_of log) key one)))));
-    valid = subst (λ l. AreValid d (keyed_values l)) (sym are) (where_valid d passes 0 log.records valid);
-  }
-
-  -- the rows of batches stand for them, where there is one shard
-  pub are_rows : (d : Dictionaries E) (log : CutLog E) (rows : Rows E) → log.shards ≡ 1 → AreBatchRows d log.records rows → AreRowsBy d.stores d.add log 0 rows
-  are_rows d log rows one made = λ key there.
-      made.folds key
-      ∙ fold_same (d.add key.store) (log_values log key) (λ i. is_between rows.from rows.to (batch_at (places_of log) i)) (λ i. is_of_shard (places_of log) 0 key && is_between rows.from rows.to (batch_at (places_of log) i))
-      (λ i. ap (λ o. o && is_between rows.from rows.to (batch_at (places_of log) i)) (sym (of_one_shard (places_of log) key one)))
+  -- the parts at the positions of chunks stand for these, in the parcel of each shard
+  pub is_parcel : (d : Dictionaries E) (log : CutLog E) (passes : ℕ → Bool) (chunks : List ℕ) (parts : List (Part E)) (shard : ℕ) → IsLogOf d log → parts ≡ parts_where passes 0 log.records
+      → ((i : ℕ) → i < length log.records → passes i ≡ is_in chunks (chunk_at (places_of log) i)) → IsParcelOf d log shard (shard_parcel log.shards (record { chunks = chunks; parts = parts }) shard)
+  is_parcel d log passes chunks parts shard valid are same =
+      parcel_for_shard d log (record { chunks = chunks; parts = parts }) shard (subst (λ l. AreValid d (keyed_values l)) (sym are) (where_valid d passes 0 log.records valid))
+      (λ key j. ap (sum_at d.add key j) are ∙ (sum_where d.add log passes key j
+      ∙ fold_where (d.add key.store) log key (λ i. passes i && (batch_at (places_of log) i == j)) (λ i. batch_at (places_of log) i == j && is_in chunks (chunk_at (places_of log) i))
+      (λ i less. and_turn (passes i) (batch_at (places_of log) i == j) ∙ ap (λ t. batch_at (places_of log) i == j && t) (same i less))))

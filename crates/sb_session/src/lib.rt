@@ -1,8 +1,11 @@
-//! A session over one shard, without threads: chunks of a feed are worked into the shard, batches are published, and
-//! reads merge what the shard holds.
+//! A session over shards, without threads: chunks of a feed are worked into the shards, batches are published, and reads
+//! merge what the key's shard holds.
 #![tactic(auto)]
 
+mod draining;
 mod emitting;
+mod reading;
 mod session;
 
-pub use session::{Reading, Session};
+pub use reading::Reading;
+pub use session::Session;

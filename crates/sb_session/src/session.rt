@@ -1,91 +1,93 @@
 //! The session: its events, and what it reads.
-ghost use Rattle.std.specs.Prelude.{◌≡◌, ◌≤◌, ◌<◌, ◌+◌, ◌-◌, ◌*◌, ◌++◌, nat_le, min, max, map, length, IfOk, OnOk, OnErr};
+ghost use Rattle.std.specs.Prelude.{◌≡◌, ◌≤◌, ◌<◌, ◌+◌, ◌-◌, nat_le, min, max, length, Some, slice_get, IfOk, OnOk, OnErr};
 ghost use Rattle.std.specs.List.{AllByRecursion, range_with_len};
 ghost use Rattle.sb_feed.specs.Cuts.{chunk_count};
+ghost use Rattle.sb_feed.specs.Jobs.{IsLogOf, meant};
 ghost use Rattle.sb_feed.specs.Limits.{most_chunks};
-ghost use Rattle.sb_laws.specs.Sums.{sum_of};
-ghost use Rattle.sb_shard.specs.Asks.{values_of};
-ghost use Rattle.sb_shard.specs.Shards.{cover_of};
-ghost use Rattle.sb_session.specs.Sessions.{job_by, IsOver, published_by, floor_by, raised_floor, read_fold, AreAllRows};
+ghost use Rattle.sb_feed.specs.Stands.{keyed_values};
+ghost use Rattle.sb_shard.specs.Shards.{ShardValue, published_to};
+ghost use Rattle.sb_session.specs.Sessions.{job_by, raised_floor, read_fold, AreAllRows, IsEach, IsOver, StandEach};
+ghost use Rattle.sb_session.specs.Steps.{Installs, IsNew, IsNextParcel, IsShardOver, Moves};
 
+use crate::draining::drain_shards;
 use crate::emitting::{batch_count, parts_between};
-use sb_feed::{Cut, Feed, KeyBytes, Parcel, PartList, RowList, Sums};
-use sb_job::job;
-use sb_laws::{Commuting, NoMemory, Semigroup, fold_list};
-use sb_shard::{Answer, AskError, Shard};
+use crate::reading::{Reading, merge};
+use sb_feed::{Cut, Feed, KeyBytes, Parcel, PartList, RowList, Rows};
+use sb_job::{job, split_parcel, split_rows};
+use sb_laws::{Commuting, NoMemory, Semigroup};
+use sb_shard::{AskError, Shard};
 use sb_text::Ranges;
 use std::alloc::{AllocError, Global};
 use std::marker::Model;
 
-/// What a read gives: the value, which is none where no named record has the key; the number of published batches; and
-/// the chunks that were worked.
-#[derive(Drop)]
-pub struct Reading<E> {
-    pub value: Option<E>,
-    pub published: u64,
-    pub cover: Ranges,
-}
-
-/// One shard, into which the chunks of a feed are worked from the first on, and in which its batches are published.
+/// The shards of a cut, into which the chunks of a feed are worked from the first on, and in which its batches are
+/// published. Each key is in the shard that the cut gives it. All shards are at the same chunks, batches and floor.
+///
+/// After a refused event some shards are further than others: such a session may only be dropped.
 #[derive(Drop)]
 pub struct Session<E> {
-    shard: Shard<E>,
+    shards: Vec<Shard<E>>,
     cut: Cut,
     batches: u64,
     worked: u64,
+    published: u64,
+    floor: u64,
 }
 
 impl<E> Model for Session<E> {
-    ghost use Rattle.sb_feed.specs.Cuts.{IsCut};
+    ghost use Rattle.std.specs.Prelude.{◌≤◌};
+    ghost use Rattle.sb_feed.specs.Cuts.{IsCut, chunk_count};
     ghost use Rattle.sb_session.specs.Sessions.{SessionValue};
 
     ghost Value = { SessionValue E };
 
-    ghost view = { λ s. record { shard = s.shard; cut = s.cut; batches = s.batches; worked = s.worked } };
+    ghost view = { λ s. record { shards = s.shards.items; cut = s.cut; batches = s.batches; worked = s.worked; published = s.published; floor = s.floor } };
 
-    ghost invariant = { λ s. IsCut s.cut };
+    ghost invariant = { λ s. IsCut s.cut × (s.worked ≤ chunk_count s.cut) };
 }
 
 impl<E: Drop> Session<E> {
-    /// A session over a feed, in the chunks of a cut made for its records, with one shard. Nothing is worked, and nothing is published.
-    /// Takes no memory.
-    pub fn new<F: Feed>(alloc: Global, feed: &F, cut: Cut) -> Session<E>
+    /// A session over a feed, in the chunks and shards of a cut made for its records. Nothing is worked, and nothing is
+    /// published.
+    pub fn new<F: Feed>(alloc: Global, feed: &F, cut: Cut) -> Result<Session<E>, NoMemory>
     where
         F::M: Semigroup<El = E>,
         requires records { cut.records ≡ length (F.records feed.now) }
-        requires one { cut.shards ≡ 1 }
-        ensures over { IsOver F.M.valid F.M.add (F.monoids feed.now) (F.records feed.now) result }
-        ensures cut { result.cut ≡ cut }
-        ensures numbers { (result.worked ≡ 0) × (published_by result ≡ 0)
-            × (floor_by result ≡ 0) }
+        ensures over { IfOk result (IsOver F.M.valid F.M.add (F.monoids feed.now) (F.records feed.now)) }
+        ensures cut { IfOk result (λ session. session.cut ≡ cut) }
+        ensures numbers { IfOk result (λ session. (session.worked ≡ 0) × (session.published ≡ 0)
+            × (session.floor ≡ 0)) }
     {
-        Session {
-            shard: Shard::new(alloc),
+        let shards = new_shards(alloc, cut.shards())?;
+        Ok(Session {
+            shards,
             batches: batch_count(feed),
             cut,
             worked: 0,
-        }
+            published: 0,
+            floor: 0,
+        })
     }
 
     /// The number of published batches.
     pub fn published(&self) -> u64
-        ensures { result ≡ published_by self.now }
+        ensures { result ≡ self.now.published }
     {
-        self.shard.published()
+        self.published
     }
 
     /// The floor: the sums of the batches below it are added up.
     pub fn floor(&self) -> u64
-        ensures { result ≡ floor_by self.now }
+        ensures { result ≡ self.now.floor }
     {
-        self.shard.floor()
+        self.floor
     }
 
     /// The chunks that were worked.
-    pub fn cover(&self) -> &Ranges
-        ensures { result.now ≡ cover_of self.now.shard }
+    pub fn cover(&self, alloc: Global) -> Result<Ranges, NoMemory>
+        ensures { IfOk result (λ chunks. chunks ≡ range_with_len 0 self.now.worked) }
     {
-        self.shard.cover()
+        chunks_between(alloc, 0, self.worked)
     }
 
     /// Raises the floor to this one, unless it is there already. False, and nothing changed, exactly where the floor would
@@ -97,21 +99,70 @@ impl<E: Drop> Session<E> {
             self.old }
         ensures over { OnOk result (IsOver F.M.valid F.M.add (F.monoids feed.now)
             (F.records feed.now) self.new) }
-        ensures raised { IfOk result (λ raised. raised ≡ nat_le floor (published_by self.old)) }
-        ensures floor { OnOk result (floor_by self.new ≡ raised_floor (published_by self.old)
-            (floor_by self.old) floor) }
+        ensures raised { IfOk result (λ raised. raised ≡ nat_le floor self.old.published) }
+        ensures floor { OnOk result (self.new.floor ≡ raised_floor self.old.published
+            self.old.floor floor) }
         ensures others { OnOk result ((self.new.cut ≡ self.old.cut)
-            × (published_by self.new ≡ published_by self.old)
-            × (self.new.worked ≡ self.old.worked)) }
-        ensures err { OnErr result (self.new ≡ self.old) }
+            × (self.new.published ≡ self.old.published) × (self.new.worked ≡ self.old.worked)) }
+        ensures err { OnErr result (StandEach F.M.valid F.M.add (F.monoids feed.now)
+            (F.records feed.now) self.new) }
     {
-        if self.shard.published() < floor {
+        if self.published < floor {
             return Ok(false);
         }
-        let Ok(()) = self.shard.expire(alloc, feed, floor) else {
+        self.raise(alloc, feed, floor)?;
+        Ok(true)
+    }
+
+    // Raises the floor in each shard.
+    fn raise<F: Feed>(&mut self, alloc: Global, feed: &F, floor: u64) -> Result<(), NoMemory>
+    where
+        F::M: Commuting<El = E>,
+        requires over { IsOver F.M.valid F.M.add (F.monoids feed.now) (F.records feed.now)
+            self.old }
+        requires within { floor ≤ self.old.published }
+        ensures over { OnOk result (IsOver F.M.valid F.M.add (F.monoids feed.now)
+            (F.records feed.now) self.new) }
+        ensures floor { OnOk result (self.new.floor ≡ max self.old.floor floor) }
+        ensures others { OnOk result ((self.new.cut ≡ self.old.cut)
+            × (self.new.published ≡ self.old.published) × (self.new.worked ≡ self.old.worked)) }
+        ensures err { OnErr result (StandEach F.M.valid F.M.add (F.monoids feed.now)
+            (F.records feed.now) self.new) }
+    {
+        for number in 0..self.shards.len() {
+            self.raise_shard(alloc, feed, number, floor)?;
+        }
+        self.floor = self.floor.max(floor);
+        Ok(())
+    }
+
+    // Raises the floor in the shard with this number.
+    fn raise_shard<F: Feed>(
+        &mut self,
+        alloc: Global,
+        feed: &F,
+        number: usize,
+        floor: u64,
+    ) -> Result<(), NoMemory>
+    where
+        F::M: Commuting<El = E>,
+        requires log { IsLogOf (meant F.M.valid F.M.add (F.monoids feed.now))
+            (job_by (F.monoids feed.now) (F.records feed.now) self.old.cut).log }
+        requires there { number < length self.old.shards }
+        requires over { IsShardOver F.M.valid F.M.add (F.monoids feed.now) (F.records feed.now)
+            self.old number }
+        requires within { floor ≤ self.old.published }
+        ensures ok { OnOk result (Moves F.M.valid F.M.add (job_by (F.monoids feed.now)
+            (F.records feed.now) self.old.cut)
+            self.old.worked self.old.published (max self.old.floor floor) number self.old
+            self.new) }
+        ensures err { OnErr result (self.new ≡ self.old) }
+    {
+        let shard = &mut self.shards[number];
+        let Ok(()) = shard.expire(alloc, feed, floor) else {
             return Err(AllocError);
         };
-        Ok(true)
+        Ok(())
     }
 
     /// Works the next chunks, at most so many, and gives their numbers.
@@ -127,9 +178,9 @@ impl<E: Drop> Session<E> {
         ensures chunks { IfOk result (λ chunks. chunks
             ≡ range_with_len self.old.worked (self.new.worked - self.old.worked)) }
         ensures others { OnOk result ((self.new.cut ≡ self.old.cut)
-            × (published_by self.new ≡ published_by self.old)
-            × (floor_by self.new ≡ floor_by self.old)) }
-        ensures err { OnErr result (self.new ≡ self.old) }
+            × (self.new.published ≡ self.old.published) × (self.new.floor ≡ self.old.floor)) }
+        ensures err { OnErr result (StandEach F.M.valid F.M.add (F.monoids feed.now)
+            (F.records feed.now) self.new) }
     {
         let upto = self.cut.chunks().min(self.worked.saturating_add(most));
         let chunks = chunks_between(alloc, self.worked, upto)?;
@@ -139,7 +190,7 @@ impl<E: Drop> Session<E> {
         Ok(chunks)
     }
 
-    // Flushes the parts of the next chunks, up to one.
+    // Flushes the next chunks, up to one, into each shard.
     fn flush<F: Feed>(&mut self, alloc: Global, feed: &F, upto: u64) -> Result<(), NoMemory>
     where
         F::M: Commuting<El = E>,
@@ -151,9 +202,36 @@ impl<E: Drop> Session<E> {
             (F.records feed.now) self.new) }
         ensures worked { OnOk result (self.new.worked ≡ upto) }
         ensures others { OnOk result ((self.new.cut ≡ self.old.cut)
-            × (published_by self.new ≡ published_by self.old)
-            × (floor_by self.new ≡ floor_by self.old)) }
-        ensures err { OnErr result (self.new ≡ self.old) }
+            × (self.new.published ≡ self.old.published) × (self.new.floor ≡ self.old.floor)) }
+        ensures err { OnErr result (StandEach F.M.valid F.M.add (F.monoids feed.now)
+            (F.records feed.now) self.new) }
+    {
+        let mut number = 0;
+        for parcel in self.parcels(alloc, feed, upto)? {
+            self.flush_shard(alloc, feed, number, parcel)?;
+            number += 1;
+        }
+        self.worked = upto;
+        Ok(())
+    }
+
+    // The parcels of the next chunks, up to one, by the shards' numbers.
+    fn parcels<F: Feed>(
+        &self,
+        alloc: Global,
+        feed: &F,
+        upto: u64,
+    ) -> Result<Vec<Parcel<E>>, NoMemory>
+    where
+        F::M: Semigroup<El = E>,
+        requires over { IsOver F.M.valid F.M.add (F.monoids feed.now) (F.records feed.now)
+            self.now }
+        requires some { self.now.worked < upto }
+        requires chunks { upto ≤ chunk_count self.now.cut }
+        ensures number { IfOk result (λ parcels. length parcels.items ≡ self.now.cut.shards) }
+        ensures each { IfOk result (λ parcels. IsEach (IsNextParcel F.M.valid F.M.add
+            (job_by (F.monoids feed.now) (F.records feed.now) self.now.cut) self.now.worked
+            upto) parcels.items) }
     {
         let chunks = chunks_between(alloc, self.worked, upto)?;
         let from = self.cut.bounds(self.worked).0;
@@ -163,47 +241,97 @@ impl<E: Drop> Session<E> {
             chunks,
             parts: PartList::from_vec(parts),
         };
-        self.shard.flush(alloc, feed, parcel)?;
-        self.worked = upto;
-        Ok(())
+        split_parcel(alloc, parcel, &self.cut)
     }
 
-    /// Publishes the batches of the log below this one that aren't published yet. After a refusal those before the
-    /// refused one are.
+    // Flushes its parcel into the shard with this number.
+    fn flush_shard<F: Feed>(
+        &mut self,
+        alloc: Global,
+        feed: &F,
+        number: usize,
+        parcel: Parcel<E>,
+    ) -> Result<(), NoMemory>
+    where
+        F::M: Commuting<El = E>,
+        requires log { IsLogOf (meant F.M.valid F.M.add (F.monoids feed.now))
+            (job_by (F.monoids feed.now) (F.records feed.now) self.old.cut).log }
+        requires there { number < length self.old.shards }
+        requires over { IsShardOver F.M.valid F.M.add (F.monoids feed.now) (F.records feed.now)
+            self.old number }
+        requires parcel { IsNextParcel F.M.valid F.M.add (job_by (F.monoids feed.now)
+            (F.records feed.now) self.old.cut)
+            self.old.worked (self.old.worked + length parcel.chunks) number parcel }
+        ensures ok { OnOk result (Moves F.M.valid F.M.add (job_by (F.monoids feed.now)
+            (F.records feed.now) self.old.cut)
+            (self.old.worked + length parcel.chunks) self.old.published self.old.floor number
+            self.old self.new) }
+        ensures err { OnErr result (self.new ≡ self.old) }
+    {
+        let shard = &mut self.shards[number];
+        shard.flush(alloc, feed, parcel)
+    }
+
+    /// Publishes the batches of the log below this one that aren't published yet.
     pub fn publish<F: Feed>(&mut self, alloc: Global, feed: &F, upto: u64) -> Result<(), NoMemory>
     where
         F::M: Commuting<El = E>,
         requires over { IsOver F.M.valid F.M.add (F.monoids feed.now) (F.records feed.now)
             self.old }
-        ensures over { IsOver F.M.valid F.M.add (F.monoids feed.now) (F.records feed.now) self.new }
-        ensures published { OnOk result (published_by self.new
-            ≡ max (published_by self.old) (min upto self.old.batches)) }
-        ensures others { (self.new.cut ≡ self.old.cut) × (self.new.worked ≡ self.old.worked)
-            × (floor_by self.new ≡ floor_by self.old) }
+        ensures over { OnOk result (IsOver F.M.valid F.M.add (F.monoids feed.now)
+            (F.records feed.now) self.new) }
+        ensures published { OnOk result (self.new.published
+            ≡ max self.old.published (min upto self.old.batches)) }
+        ensures others { OnOk result ((self.new.cut ≡ self.old.cut)
+            × (self.new.worked ≡ self.old.worked) × (self.new.floor ≡ self.old.floor)) }
+        ensures err { OnErr result (StandEach F.M.valid F.M.add (F.monoids feed.now)
+            (F.records feed.now) self.new) }
     {
         let end = upto.min(self.batches);
-        for batch in self.published()..end {
+        for batch in self.published..end {
             self.publish_next(alloc, feed, batch)?;
         }
         Ok(())
     }
 
-    // Publishes the next batch, which has this number.
+    // Publishes the next batch, which has this number, in each shard.
     fn publish_next<F: Feed>(&mut self, alloc: Global, feed: &F, batch: u64) -> Result<(), NoMemory>
     where
         F::M: Commuting<El = E>,
         requires over { IsOver F.M.valid F.M.add (F.monoids feed.now) (F.records feed.now)
             self.old }
-        requires next { batch ≡ published_by self.old }
+        requires next { batch ≡ self.old.published }
         requires some { batch < self.old.batches }
-        ensures over { IsOver F.M.valid F.M.add (F.monoids feed.now) (F.records feed.now) self.new }
-        ensures published { OnOk result (published_by self.new ≡ published_by self.old + 1) }
-        ensures others { (self.new.cut ≡ self.old.cut) × (self.new.worked ≡ self.old.worked)
-            × (self.new.batches ≡ self.old.batches) × (floor_by self.new ≡ floor_by self.old) }
+        ensures over { OnOk result (IsOver F.M.valid F.M.add (F.monoids feed.now)
+            (F.records feed.now) self.new) }
+        ensures published { OnOk result (self.new.published ≡ self.old.published + 1) }
+        ensures others { OnOk result ((self.new.cut ≡ self.old.cut)
+            × (self.new.worked ≡ self.old.worked) × (self.new.batches ≡ self.old.batches)
+            × (self.new.floor ≡ self.old.floor)) }
+        ensures err { OnErr result (StandEach F.M.valid F.M.add (F.monoids feed.now)
+            (F.records feed.now) self.new) }
     {
         let rows = job(alloc, feed, batch, batch + 1)?;
-        self.shard.install(rows)?;
+        let mut number = 0;
+        for rows in split_rows(alloc, rows, &self.cut)? {
+            self.install_in(number, rows)?;
+            number += 1;
+        }
+        self.published = batch + 1;
         Ok(())
+    }
+
+    // Installs its rows of the next batch in the shard with this number.
+    fn install_in(&mut self, number: usize, rows: Rows<E>) -> Result<(), NoMemory>
+        requires there { number < length self.old.shards }
+        requires published { (shard : ShardValue E) → slice_get self.old.shards number ≡ Some shard
+            → published_to shard ≡ rows.from }
+        requires to { rows.to ≡ rows.from + 1 }
+        ensures ok { OnOk result (Installs rows number self.old self.new) }
+        ensures err { OnErr result (self.new ≡ self.old) }
+    {
+        let shard = &mut self.shards[number];
+        shard.install(rows)
     }
 
     /// The fold of a key over the published batches and the chunks that were worked, up to a batch, which the floor doesn't
@@ -220,14 +348,15 @@ impl<E: Drop> Session<E> {
         requires over { IsOver F.M.valid F.M.add (F.monoids feed.now) (F.records feed.now)
             self.now }
         requires store { key.now.store < length (F.monoids feed.now) }
-        requires open { floor_by self.now ≤ upto + 1 }
+        requires open { self.now.floor ≤ upto + 1 }
         ensures value { IfOk result (λ reading. reading.value
             ≡ read_fold F.M.add (job_by (F.monoids feed.now) (F.records feed.now) self.now.cut)
-            key.now upto (published_by self.now) self.now.worked) }
-        ensures numbers { IfOk result (λ reading. (reading.published ≡ published_by self.now)
+            key.now upto self.now.published self.now.worked) }
+        ensures numbers { IfOk result (λ reading. (reading.published ≡ self.now.published)
             × (reading.cover ≡ range_with_len 0 self.now.worked)) }
     {
-        match self.shard.ask(alloc, feed, key, upto) {
+        let shard = &self.shards[self.cut.shard_of(key) as usize];
+        match shard.ask(alloc, feed, key, upto) {
             Ok(answer) => merge(alloc, feed.monoid(key.store), answer),
             Err(AskError::NoMemory) => Err(AllocError),
 
@@ -245,9 +374,21 @@ impl<E: Drop> Session<E> {
             (job_by (F.monoids feed.now) (F.records feed.now) self.cut)) }
     {
         self.work(alloc, feed, u64::MAX)?;
-        let rows = self.shard.into_rows(alloc, feed)?;
-        Ok(rows)
+        let Session { shards, cut, .. } = self;
+        drain_shards(alloc, feed, &cut, shards)
     }
+}
+
+// So many shards with nothing in them.
+fn new_shards<E: Drop>(alloc: Global, count: u32) -> Result<Vec<Shard<E>>, NoMemory>
+    ensures number { IfOk result (λ shards. length shards.items ≡ count) }
+    ensures each { IfOk result (λ shards. AllByRecursion IsNew shards.items) }
+{
+    let mut shards = Vec::with_capacity(alloc, count as usize)?;
+    for _ in 0..count {
+        shards.push(Shard::new(alloc))?;
+    }
+    Ok(shards)
 }
 
 // The numbers of the chunks from one on and below another.
@@ -261,47 +402,4 @@ fn chunks_between(alloc: Global, from: u64, to: u64) -> Result<Ranges, NoMemory>
         chunks.insert(chunk)?;
     }
     Ok(chunks)
-}
-
-// The sum of the values that a shard answers, with the cover and the number of published batches.
-fn merge<M: Semigroup>(
-    alloc: Global,
-    m: &M,
-    answer: Answer<M::El>,
-) -> Result<Reading<M::El>, NoMemory>
-    requires { AllByRecursion (M.valid m.now) (values_of answer) }
-    ensures value { IfOk result (λ reading. reading.value
-        ≡ sum_of (M.add m.now) (values_of answer)) }
-    ensures numbers { IfOk result (λ reading. (reading.published ≡ answer.published_to)
-        × (reading.cover ≡ answer.cover)) }
-{
-    let Answer {
-        base,
-        published,
-        online,
-        cover,
-        published_to,
-        floor: _,
-    } = answer;
-    let mut values = Vec::new(alloc);
-    if let Some(base) = base {
-        values.push(base)?;
-    }
-    push_values(&mut values, published)?;
-    push_values(&mut values, online)?;
-    let value = fold_list(alloc, m, values)?;
-    Ok(Reading {
-        value,
-        published: published_to,
-        cover,
-    })
-}
-
-fn push_values<E: Drop>(values: &mut Vec<E>, sums: Sums<E>) -> Result<(), NoMemory>
-    ensures { OnOk result (values.new.items ≡ values.old.items ++ map (λ sum. sum.1) sums) }
-{
-    for (_, value) in sums.into_vec() {
-        values.push(value)?;
-    }
-    Ok(())
 }

@@ -12,7 +12,7 @@ ghost use Rattle.sb_shard.specs.Events.{FlushKeeps, InstallKeeps, KeepsOnly, Exp
 
 use crate::answer::{Answer, AskError};
 use sb_feed::{Family, KeyBytes, Parcel, Part, PartList, RowList, Rows};
-use sb_job::KeySet;
+use sb_job::{KeySet, KeySums};
 use sb_laws::{NoMemory, Semigroup};
 use sb_offline::{ExpireError, Offered, Offline};
 use sb_online::Online;
@@ -176,6 +176,8 @@ impl<E: Drop> Shard<E> {
         ensures not_published { (result
             ≡ Err (ExpireError.NotPublished floor (published_to self.old)))
             ↔ published_to self.old < floor }
+        ensures refused { IfErr result (λ e. (e ≡ ExpireError.NoMemory)
+            ⊎ (e ≡ ExpireError.NotPublished floor (published_to self.old))) }
         ensures err { OnErr result (self.new ≡ self.old) }
     {
         self.offline.expire(alloc, family, floor)
@@ -233,11 +235,22 @@ impl<E: Drop> Shard<E> {
         requires kept { AreValid (meant F.M.valid F.M.add (F.monoids family.now)) (kept_by self) }
         ensures { IfOk result (Drains F.M.valid F.M.add (F.monoids family.now) self) }
     {
+        let sums = self.into_sums(alloc, family)?;
+        sums.into_rows(alloc)
+    }
+
+    /// The same sums in no order, in as many steps as there are kept values.
+    pub fn into_sums<F: Family>(self, alloc: Global, family: &F) -> Result<KeySums<E>, NoMemory>
+    where
+        F::M: Semigroup<El = E>,
+        requires kept { AreValid (meant F.M.valid F.M.add (F.monoids family.now)) (kept_by self) }
+        ensures { IfOk result (Drains F.M.valid F.M.add (F.monoids family.now) self) }
+    {
         let from = self.published();
         let Shard { offline, online } = self;
         let mut sums = offline.into_sums(alloc, family)?;
         online.add_to(alloc, family, &mut sums, from)?;
-        sums.into_rows(alloc)
+        Ok(sums)
     }
 
     // What is held of a key.

@@ -8,4 +8,4 @@ value_at-requires g c =
     let runner = c.args.feed.now in
     let over = c.requires.1.0 in
     let few = few_batches online_valid online_add runner.stores.monoids runner.records c.args.session.now over in
-    (c.requires.0, (over, (c.requires.1.1, omega (arith, over.stands.folds.floor, over.stands.folds.last, over.batches, few))))
+    (c.requires.0, (over, (c.requires.1.1, omega (arith, over.published.0, over.published.1, few))))

@@ -3,7 +3,6 @@ use Rattle.std.specs.List.{range_with_len}
 use Rattle.sb_feed.specs.Places.{is_named}
 use Rattle.sb_kind.specs.ElementText.{element_text}
 use Rattle.sb_report.specs.Report.{fold_text}
-use Rattle.sb_session.specs.Sessions.{published_by}
 use Rattle.sb_plan.specs.Runners.{online_add}
 use Rattle.sb_run.specs.Answering.{job_in}
 use Rattle.sb_feed.specs.Jobs.{job_fold}
@@ -15,5 +14,5 @@ returns-clause-value g c =
     let serves = c.requires.0 in
     let key = c.args.key.now in
     c.in_ok-value.ensures ∙ (ap (fold_text element_text) (c.in_ok-reading.ensures.value
-    ∙ ap (λ places. job_fold online_add (job_in c.args.feed.now session.cut) key (is_named places c.args.upto (published_by session) (range_with_len 0 session.worked))) serves.places)
-    ∙ sym (serves.values key.store c.requires.1.1.0 key.text (is_named g.run.places c.args.upto (published_by session) (range_with_len 0 session.worked))))
+    ∙ ap (λ places. job_fold online_add (job_in c.args.feed.now session.cut) key (is_named places c.args.upto session.published (range_with_len 0 session.worked))) serves.places)
+    ∙ sym (serves.values key.store c.requires.1.1.0 key.text (is_named g.run.places c.args.upto session.published (range_with_len 0 session.worked))))

@@ -17,17 +17,14 @@ answer_all-requires g c κs within =
     let feed = c.in-Ok.feed in
     let cut = c.in-Some.cut in
     let cut_is = c.in-Some.ensures.cut in
-    let run_is = ap (λ n. run_of said n 1 log services) (ap (λ x. x.chunk) cut_is) ∙ sym c.requires.1.0 in
-    let base = serves said log services feed c.in-Ok.ensures cut (ap (λ x. x.shards) cut_is) in (
+    let run_is = ap (λ x. run_of said x.chunk x.shards log services) cut_is ∙ sym c.requires.1.0 in
+    let base = serves said log services feed c.in-Ok.ensures cut in (
       within,
       (
         subst (λ q. Serves q feed cut g.run) (sym c.checked.ensures.value) (subst (λ r. Serves said feed cut r) run_is base),
         (
           ap (λ x. x.records) cut_is ∙ c.len.ensures.len,
-          (
-            ap (λ x. x.shards) cut_is,
-            subst (λ q. AllByRecursion (AsksOf (length q.declared.stores)) c.args.asks.items) (sym c.checked.ensures.value) c.requires.1.1.1.1.1.1,
-          ),
+          subst (λ q. AllByRecursion (AsksOf (length q.declared.stores)) c.args.asks.items) (sym c.checked.ensures.value) c.requires.1.1.1.1.1.1.1,
         ),
       ),
     )

@@ -14,7 +14,7 @@ returns-clause-ok g c =
     let log = records_of c.args.inputs.log in
     let before = g.K.Sink.written c.args.sink.now in
     let now = g.K.Sink.written c.answer_script.new.sink in
-    subst (λ p. OnOk c.answer_script.result (Appends (run_text (run_of (loaded_of p) c.args.chunk 1 log (map view_service c.args.inputs.services.items)) c.args.inputs.script.items) before now))
+    subst (λ p. OnOk c.answer_script.result (Appends (run_text (run_of (loaded_of p) c.args.chunk c.args.shards log (map view_service c.args.inputs.services.items)) c.args.inputs.script.items) before now))
     (sym c.in-Online.is)
-    (subst (λ (services : List Service). OnOk c.answer_script.result (Appends (run_text (run_of (online_of c.in-Online.program) c.args.chunk 1 log (map view_service services)) c.args.inputs.script.items) before now))
+    (subst (λ (services : List Service). OnOk c.answer_script.result (Appends (run_text (run_of (online_of c.in-Online.program) c.args.chunk c.args.shards log (map view_service services)) c.args.inputs.script.items) before now))
     c.as_slice.ensures.value c.answer_script.ensures.ok)

@@ -1,49 +1,80 @@
-use Rattle.std.proofs.Common.{◌≡◌, ◌≤◌, ◌<◌, ◌+◌, ◌-◌, ◌*◌, ◌∙◌, ◌&&◌, ap, sym, subst, arith}
-use Rattle.std.specs.Prelude.{min}
-use Rattle.sb_feed.specs.Cuts.{chunk_count}
-use Rattle.sb_feed.specs.Places.{is_in}
-use Rattle.sb_feed.specs.Jobs.{AreValid, meant}
-use Rattle.sb_feed.proofs.Meant.{stores_commute}
-use Rattle.sb_feed.specs.Stands.{keyed_values}
-use Rattle.sb_laws.proofs.Positions.{ap_both}
-use Rattle.sb_job.specs.Emitted.{is_between}
-use Rattle.sb_session.specs.Sessions.{IsOver}
-use Rattle.sb_session.proofs.Covers.{fresh_next}
-use Rattle.sb_session.proofs.Over.{over_flushed}
-use Rattle.sb_job.proofs.Emitted.{where_valid}
+use Rattle.std.proofs.Common.{◌∙◌, length, ap, sym, subst, refl, arith}
+use Rattle.sb_feed.proofs.Indexed.{on_err_of}
+use Rattle.sb_session.specs.Sessions.{StandEach, job_by}
+use Rattle.sb_session.specs.Steps.{IsNextParcel}
+use Rattle.sb_session.proofs.Moving.{starts, next_over, moves_on, over_closed, still_stands}
+use Rattle.sb_session.proofs.Places.{AreFrom, from_start}
+use Rattle.sb_session.proofs.Stands.{next_now}
 use Rattle.sb_session.proofs.session.Session.flush.Goals as goal
 
-pub chunks_between-requires-clause-limit : goal.chunks_between-requires-clause-limit
-chunks_between-requires-clause-limit g c =
-    let chunks : c.args.upto ≤ chunk_count c.self.inside.cut = subst (λ s. c.args.upto ≤ chunk_count s.cut) (sym c.self.view_is) c.requires.chunks in
-    omega (arith, chunks, c.self.invariant.chunks)
-
-pub flush-requires-clause-fresh : goal.flush-requires-clause-fresh
-flush-requires-clause-fresh g c =
-    let d = meant g.F.M.Semigroup.valid g.F.M.Semigroup.add (g.F.Family.monoids c.args.feed.now) in
+pub loop-parcel-init : goal.loop-parcel-init
+loop-parcel-init g c =
+    let V = g.F.M.Semigroup.valid in
+    let A = g.F.M.Semigroup.add in
+    let monoids = g.F.Family.monoids c.args.feed.now in
     let records = g.F.Feed.records c.args.feed.now in
-    let over = subst (IsOver g.F.M.Semigroup.valid g.F.M.Semigroup.add (g.F.Family.monoids c.args.feed.now) records) (sym c.self.view_is) c.requires.over in
-    λ n. ap_both (λ held next. is_in held n && is_in next n) over.cover c.in_ok-chunks.ensures ∙ fresh_next c.self.inside.worked (c.args.upto - c.self.inside.worked) n
+    let before = c.args.self.now in
+    let P = IsNextParcel V A (job_by monoids records before.cut) before.worked c.args.upto in
+    let gives = c.into_iter-parcel-iterator.ensures.into_iter_gives.0 in
+    record {
+      moving = starts V A monoids records c.args.upto before.published before.floor before c.requires.over;
+      parcels = subst (AreFrom P 0) (sym gives) (from_start P c.in_ok-parcel-items.parcel-items.items c.in_ok-parcel-items.ensures.each);
+      count = omega (arith, ap length gives, c.in_ok-parcel-items.ensures.number, c.requires.over.number);
+    }
 
-pub flush-requires-clause-parts : goal.flush-requires-clause-parts
-flush-requires-clause-parts g c =
-    let d = meant g.F.M.Semigroup.valid g.F.M.Semigroup.add (g.F.Family.monoids c.args.feed.now) in
+pub flush_shard-requires-clause-over : goal.flush_shard-requires-clause-over
+flush_shard-requires-clause-over g c =
+    let V = g.F.M.Semigroup.valid in
+    let A = g.F.M.Semigroup.add in
+    let monoids = g.F.Family.monoids c.args.feed.now in
     let records = g.F.Feed.records c.args.feed.now in
-    let over = subst (IsOver g.F.M.Semigroup.valid g.F.M.Semigroup.add (g.F.Family.monoids c.args.feed.now) records) (sym c.self.view_is) c.requires.over in
-    subst (λ parts. AreValid d (keyed_values parts)) (sym (c.from_vec.ensures ∙ c.in_ok-parts.ensures)) (where_valid d (is_between _ _) 0 records over.job)
+    let before = c.args.self.now in
+    next_over V A monoids records c.args.upto before.published before.floor before c.loop-parcel.number c.loop-parcel.self c.loop-parcel.invariant.moving
+
+pub flush_shard-requires-clause-parcel : goal.flush_shard-requires-clause-parcel
+flush_shard-requires-clause-parcel g c =
+    let V = g.F.M.Semigroup.valid in
+    let A = g.F.M.Semigroup.add in
+    let monoids = g.F.Family.monoids c.args.feed.now in
+    let records = g.F.Feed.records c.args.feed.now in
+    let before = c.args.self.now in
+    let P = IsNextParcel V A (job_by monoids records before.cut) before.worked c.args.upto in
+    let parcels = subst (AreFrom P c.loop-parcel.number) c.in-Some.ensures.steps.0 c.loop-parcel.invariant.parcels in
+    (next_now V A monoids records before c.loop-parcel.self c.args.upto c.loop-parcel.number c.in-Some.parcel c.loop-parcel.invariant.moving.same c.requires.some parcels.0).0
+
+pub returns-in_err-flush_shard-clause-err : goal.returns-in_err-flush_shard-clause-err
+returns-in_err-flush_shard-clause-err g c =
+    let V = g.F.M.Semigroup.valid in
+    let A = g.F.M.Semigroup.add in
+    let monoids = g.F.Family.monoids c.args.feed.now in
+    let records = g.F.Feed.records c.args.feed.now in
+    let before = c.args.self.now in
+    on_err_of c.from_residual-in_err-flush_shard.result (subst (StandEach V A monoids records) (sym c.in_err-flush_shard.ensures.err) (still_stands V A monoids records c.args.upto before.published before.floor before c.loop-parcel.number c.loop-parcel.self c.loop-parcel.invariant.moving))
+
+pub loop-parcel-preserved : goal.loop-parcel-preserved
+loop-parcel-preserved g c =
+    let V = g.F.M.Semigroup.valid in
+    let A = g.F.M.Semigroup.add in
+    let monoids = g.F.Family.monoids c.args.feed.now in
+    let records = g.F.Feed.records c.args.feed.now in
+    let before = c.args.self.now in
+    let P = IsNextParcel V A (job_by monoids records before.cut) before.worked c.args.upto in
+    let moving = c.loop-parcel.invariant.moving in
+    let parcels = subst (AreFrom P c.loop-parcel.number) c.in-Some.ensures.steps.0 c.loop-parcel.invariant.parcels in
+    let next = next_now V A monoids records before c.loop-parcel.self c.args.upto c.loop-parcel.number c.in-Some.parcel moving.same c.requires.some parcels.0 in
+    record {
+      moving = moves_on V A monoids records c.args.upto before.published before.floor before c.loop-parcel.number c.loop-parcel.self c.flush_shard.new.self _ _ _ moving c.in_ok-flush_shard.ensures.ok next.1 (ap (λ s. s.published) moving.same) (ap (λ s. s.floor) moving.same);
+      parcels = parcels.1;
+      count = omega (arith, ap length c.in-Some.ensures.steps.0, c.loop-parcel.invariant.count);
+    }
 
 pub returns-clause-over : goal.returns-clause-over
 returns-clause-over g c =
-    let d = meant g.F.M.Semigroup.valid g.F.M.Semigroup.add (g.F.Family.monoids c.args.feed.now) in
+    let V = g.F.M.Semigroup.valid in
+    let A = g.F.M.Semigroup.add in
+    let monoids = g.F.Family.monoids c.args.feed.now in
     let records = g.F.Feed.records c.args.feed.now in
-    let commute = stores_commute g.F.M.Semigroup.valid g.F.M.Semigroup.add (λ m. record {
-      semigroup = record { keeps_valid = g.met.F.M.Semigroup.keeps_valid m; associates = g.met.F.M.Semigroup.associates m };
-      commutes = g.met.F.M.Commuting.commutes m;
-    }) (g.F.Family.monoids c.args.feed.now) in
-    let over = subst (IsOver g.F.M.Semigroup.valid g.F.M.Semigroup.add (g.F.Family.monoids c.args.feed.now) records) (sym c.self.view_is) c.requires.over in
-    let some : c.self.inside.worked < c.args.upto = subst (λ s. s.worked < c.args.upto) (sym c.self.view_is) c.requires.some in
-    let last : c.args.upto - 1 + 1 ≡ c.args.upto = omega (arith, some) in
-    over_flushed g.F.M.Semigroup.valid g.F.M.Semigroup.add (g.F.Family.monoids c.args.feed.now) records _ c.flush.new.self c.args.upto _ _ _ commute over (omega (arith, c.self.invariant.chunk.0)) (subst (λ s. s.worked < c.args.upto) (sym c.self.view_is) c.requires.some) (subst (λ s. c.args.upto ≤ chunk_count s.cut) (sym c.self.view_is) c.requires.chunks)
-    (ap (λ bounds. bounds.0) c.bounds-from.ensures.bounds)
-    (ap (λ bounds. bounds.1) c.bounds-to.ensures.bounds ∙ ap (λ n. min (n * c.self.inside.cut.chunk) c.self.inside.cut.records) last)
-    c.in_ok-chunks.ensures (c.from_vec.ensures ∙ c.in_ok-parts.ensures) c.in_ok-flush.ensures.stands c.in_ok-flush.ensures.cover
+    let before = c.args.self.now in
+    let moving = c.loop-parcel.invariant.moving in
+    over_closed V A monoids records c.args.upto before.published before.floor before c.loop-parcel.number c.loop-parcel.self _ _ c.args.upto _ _ c.requires.over moving (omega (arith, c.in-None.ensures.steps.0, c.loop-parcel.parcel-iterator.rest.ok, c.loop-parcel.invariant.count)) c.self-2.view_is
+    refl refl (ap (λ s. s.published) (c.self-2.view_is ∙ moving.same)) (ap (λ s. s.floor) (c.self-2.view_is ∙ moving.same)) c.requires.chunks c.requires.over.published.0 c.requires.over.published.1

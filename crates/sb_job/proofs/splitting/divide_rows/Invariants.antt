@@ -2,7 +2,7 @@ use Rattle.std.proofs.Common.{◌≡◌, ◌++◌, map}
 use Rattle.std.specs.List.{range_with_len}
 use Rattle.std.specs.Vec.Iter.{into_iter_items}
 use Rattle.sb_job.specs.Batches.{rows_in}
-use Rattle.sb_job.proofs.splitting.split_rows.Given as goal
+use Rattle.sb_job.proofs.splitting.divide_rows.Given as goal
 
 abbrev pub invariant-loop-row : goal.invariant-loop-row
 invariant-loop-row g l = record {

@@ -1,0 +1,11 @@
+use Rattle.std.proofs.Common.{◌≡◌, ◌++◌, map}
+use Rattle.std.specs.List.{range_with_len}
+use Rattle.std.specs.Vec.Iter.{into_iter_items}
+use Rattle.sb_job.specs.Parcels.{parts_in}
+use Rattle.sb_job.proofs.splitting.divide_parcel.Given as goal
+
+abbrev pub invariant-loop-part : goal.invariant-loop-part
+invariant-loop-part g l = record {
+  lists : map (λ list. list.items) l.lists.items ≡ map (parts_in l.fn.cut.shards l.yielded) (range_with_len 0 l.fn.cut.shards);
+  split : l.yielded ++ into_iter_items l.part-iterator ≡ l.fn.parcel.parts;
+}
