@@ -397,9 +397,5 @@ fn chunks_between(alloc: Global, from: u64, to: u64) -> Result<Ranges, NoMemory>
     requires limit { to ≤ most_chunks }
     ensures { IfOk result (λ chunks. chunks ≡ range_with_len from (to - from)) }
 {
-    let mut chunks = Ranges::new(alloc);
-    for chunk in from..to {
-        chunks.insert(chunk)?;
-    }
-    Ok(chunks)
+    Ranges::span(alloc, from, to)
 }
