@@ -146,7 +146,12 @@ fn sets_print_their_maximal_ranges(rt: HostRuntime) -> Result<(), Fail> {
     }
     expect_text(&rt, alloc, &Ranges::new(alloc), "none")?;
     expect_text(&rt, alloc, &Ranges::span(alloc, 5, 5)?, "none")?;
-    expect_text(&rt, alloc, &Ranges::span(alloc, 0, 1 << 32)?, "0-4294967295")?;
+    expect_text(
+        &rt,
+        alloc,
+        &Ranges::span(alloc, 0, 1 << 32)?,
+        "0-4294967295",
+    )?;
     for text in ["", "0", "0-1,2-3", "3-2", "00-1", "0-4294967296"] {
         holds(&rt, Ranges::read(alloc, text.as_bytes())?.is_none());
     }
