@@ -1,37 +1,40 @@
 -- A runner's records are those of its log, and its folds those of what is emitted.
 use Rattle.std.proofs.Common.{◌≡◌, ◌∙◌, ◌⊎◌, inl, inr, ℕ, zero, suc, ◌+◌, ◌<◌, ◌≤◌, Bool, true, false, ◌&&◌, List, [], ◌∷◌, map, length, Option, Some, None, refl, sym, ap, subst, add-one, arith}
-use Rattle.std.specs.Prelude.{slice_get, slice_index_or, option_map, unwrap_or}
+use Rattle.std.specs.Prelude.{◌==◌, slice_get, slice_index_or, option_map, unwrap_or}
+use Rattle.std.specs.FinMap.{find}
 use Rattle.std.specs.List.{AllByRecursion}
 use Rattle.std.proofs.lemmas.List.{length-map}
 use Rattle.std.proofs.lemmas.Option.{slice_get-map}
 use Rattle.std.proofs.lemmas.Bool.Decides.{nat_tests}
+use Rattle.sb_laws.specs.Folds.{fold_over}
 use Rattle.sb_laws.specs.Sums.{CommutingLaws}
 use Rattle.sb_batcher.specs.Batches.{Batching, batch_of}
 use Rattle.sb_check.specs.Admission.{all_commute}
 use Rattle.sb_check.specs.Declarations.{Store}
-use Rattle.sb_check.specs.Log.{Logged, is_batch, are_in_batches}
+use Rattle.sb_check.specs.Log.{HavePlaces, Logged, are_in_batches, is_batch}
 use Rattle.sb_check.specs.Programs.{CheckedProgram}
 use Rattle.sb_feed.specs.Feeds.{parts_of, parts_at}
-use Rattle.sb_feed.specs.Jobs.{Record, Dictionaries, IsRecord, add_by, valid_by}
+use Rattle.sb_feed.specs.Jobs.{Record, Dictionaries, IsRecord, add_by, valid_by, values_from}
+use Rattle.sb_feed.specs.Keys.{key_order}
 use Rattle.sb_feed.specs.Limits.{last_batch}
 use Rattle.sb_kind.specs.Elements.{IsOf, plus}
 use Rattle.sb_kind.specs.KindLaws.{keeps, associates, any_order}
 use Rattle.sb_kind.specs.Monoids.{commutes}
 use Rattle.sb_kind.specs.declared.agg.Agg.{Agg}
 use Rattle.sb_kind.specs.declared.dictionary.OnlineM.{OnlineM}
-use Rattle.sb_meaning.specs.Emissions.{emission_of, emissions, monoid_in, monoid_at}
-use Rattle.sb_meaning.specs.declared.emissions.Emitted.{Emitted}
+use Rattle.sb_meaning.specs.Emissions.{monoid_in, monoid_at}
 use Rattle.sb_service.specs.Rows.{Rows}
-use Rattle.sb_plan.specs.Emitted.{Emission, by_text, of_key, emitted}
+use Rattle.sb_plan.specs.Emitted.{Emission, of_key, fold_of, emitted}
 use Rattle.sb_plan.specs.Entries.{entry_record}
 use Rattle.sb_plan.specs.declared.parts.Entry.{Entry}
-use Rattle.sb_plan.specs.Parts.{key_at, bare, with_all, with_stores}
-use Rattle.sb_plan.specs.Runners.{StoresValue, AreStores, HavePlaces, Runs, batch_by, batch_in, online_monoid, online_add, online_valid, plus_at, valid_at}
+use Rattle.sb_plan.specs.Given.{feeding_of, planned, fed_at}
+use Rattle.sb_plan.specs.Parts.{key_at, record_in, IsFed}
+use Rattle.sb_plan.specs.Runners.{StoresValue, AreStores, Runs, batch_by, batch_in, online_monoid, online_add, online_valid, plus_at, valid_at}
 use Rattle.sb_plan.proofs.Folded.{folds_same}
-use Rattle.sb_plan.proofs.Found.{found_at, rising_with_stores, stores_found}
-use Rattle.sb_plan.proofs.Kept.{batches_in, batches_bare, batches_with_stores, all_of_key}
+use Rattle.sb_plan.proofs.ByRecord.{placed, by_record, emission_at, emitted_by_record}
+use Rattle.sb_plan.proofs.Found.{AreRising, AreFound, found_at, rising_below, found_below, found_by_record}
+use Rattle.sb_plan.proofs.Kept.{all_of_key}
 use Rattle.sb_plan.proofs.Placing.{record_at}
-use Rattle.sb_plan.proofs.Positions.{emitted_within}
 
 -- ---- the dictionaries
 
@@ -84,26 +87,11 @@ store_laws c h store =
       commutes = any_order m (commuting_in c.declared.stores store h);
     }
 
--- ---- the records before anything is added
+-- ---- the records
 
-in_limit : (o : Option ℕ) → is_batch o ≡ true → unwrap_or o 0 ≤ last_batch
+pub in_limit : (o : Option ℕ) → is_batch o ≡ true → unwrap_or o 0 ≤ last_batch
 in_limit None h = cc
 in_limit (Some batch) h = grind (arith, nat_tests)
-
-pub bare_are_records : (d : Dictionaries Agg) (b : Batching) (log : List Logged) → are_in_batches b log ≡ true → AllByRecursion (IsRecord d) (bare (map (batch_by b) log))
-bare_are_records d b [] h = tt
-bare_are_records d b (r ∷ log) h =
-    let both = parts (is_batch (batch_of b r.time)) (are_in_batches b log) h in
-    (record { batch = in_limit (batch_of b r.time) both.0; rising = refl; valid = tt }, bare_are_records d b log both.1)
-  where
-    parts : (x y : Bool) → (x && y) ≡ true → (x ≡ true) × (y ≡ true)
-    parts true y e = (refl, e)
-    parts false y e = cc
-
--- the first records, in the batches of the program
-pub first_are_records : (d : Dictionaries Agg) (b own : Batching) (log : List Logged) (first : List (Record Agg)) → own ≡ b → are_in_batches own log ≡ true → first ≡ bare (map (batch_by b) log) → AllByRecursion (IsRecord d) first
-first_are_records d b own log first same h e =
-    subst (AllByRecursion (IsRecord d)) (sym e) (bare_are_records d b log (subst (λ x. are_in_batches x log ≡ true) same h))
 
 -- the parts of a record at its place
 pub parts_there : (records : List (Record Agg)) (i : ℕ) (r : Record Agg) → i < length records → r ≡ slice_index_or records i r → parts_of r ≡ parts_at records i
@@ -120,43 +108,7 @@ pub few_batches : (d : Dictionaries Agg) (records : List (Record Agg)) → AllBy
 few_batches d [] h = tt
 few_batches d (r ∷ records) h = (h.0.batch, few_batches d records h.1)
 
--- ---- what is emitted into one store
-
-positions_back : (n : ℕ) (all : List Emitted) → AllByRecursion (λ e. e.position < n) (map by_text (map emission_of all)) → AllByRecursion (λ e. e.position < n) all
-positions_back n [] h = tt
-positions_back n (e ∷ all) h = (h.0, positions_back n all h.1)
-
-values_kept : (V : Agg → Type 0) (all : List Emitted) → AllByRecursion (λ e. V e.value) all → AllByRecursion (λ e. V e.value) (map by_text (map emission_of all))
-values_kept V [] h = tt
-values_kept V (e ∷ all) h = (h.0, values_kept V all h.1)
-
-module _ (c same : CheckedProgram) (is : same ≡ c) (log : List Logged) (services : List Rows) (store : ℕ) (all : List Emitted) (value : map emission_of all ≡ emissions same log services store) where
-  pub all_emitted : map by_text (map emission_of all) ≡ emitted c log services store
-  all_emitted = ap (map by_text) value ∙ ap (λ p. emitted p log services store) is
-
-  pub all_within : (n : ℕ) → n ≡ length log → HavePlaces 0 log → AllByRecursion (λ e. e.position < n) all
-  all_within n e places =
-      positions_back n all
-      (subst (λ k. AllByRecursion (λ e. e.position < k) (map by_text (map emission_of all))) (sym e) (subst (AllByRecursion (λ e. e.position < length log)) (sym all_emitted) (emitted_within c log services store places)))
-
-  pub all_valid : AllByRecursion (λ e. IsOf (monoid_at same store) e.value) all → AllByRecursion (λ e. valid_at c store e.value) (emitted c log services store)
-  all_valid h = subst (AllByRecursion (λ e. valid_at c store e.value)) all_emitted (values_kept (valid_at c store) all (subst (λ p. AllByRecursion (λ e. IsOf (monoid_at p store) e.value) all) is h))
-
-  pub all_valid_by : (stores : StoresValue OnlineM) → AreStores c online_monoid stores → store < length stores.monoids → AllByRecursion (λ e. IsOf (monoid_at same store) e.value) all
-      → AllByRecursion (λ e. valid_by online_valid (slice_get stores.monoids store) e.value) all
-  all_valid_by stores h there v =
-      subst (λ V. AllByRecursion (λ e. V e.value) all) (sym (same_valid c stores store h there)) (subst (λ p. AllByRecursion (λ e. IsOf (monoid_at p store) e.value) all) is v)
-
-  pub all_added : (stores : StoresValue OnlineM) (before after : List (Record Agg)) → AreStores c online_monoid stores → store < length stores.monoids
-      → after ≡ with_all (add_by online_add (slice_get stores.monoids store)) store (map by_text (map emission_of all)) before → after ≡ with_all (plus_at c store) store (emitted c log services store) before
-  all_added stores before after h there e =
-      e ∙ (ap (λ add. with_all add store (map by_text (map emission_of all)) before) (same_plus c stores store h there) ∙ ap (λ es. with_all (plus_at c store) store es before) all_emitted)
-
 -- ---- one store more
-
-pub store_more : {E : Type 0} (add : ℕ → E → E → E) (all : ℕ → List (Emission E)) (n : ℕ) (first before after : List (Record E)) → before ≡ with_stores add all n first → after ≡ with_all (add n) n (all n) before
-    → after ≡ with_stores add all (n + 1) first
-store_more add all n first before after so_far one = one ∙ (ap (with_all (add n) n (all n)) so_far ∙ ap (λ k. with_stores add all k first) (sym (add-one n)))
 
 pub more_hold : (V : ℕ → Type 0) (n : ℕ) → ((s : ℕ) → s < n → V s) → V n → (s : ℕ) → s < n + 1 → V s
 more_hold V n h one s less = by (split s n (omega (arith, less)))
@@ -177,34 +129,67 @@ more_hold V n h one s less = by (split s n (omega (arith, less)))
 
 -- ---- the whole
 
-length_of : (records : List (Record Agg)) (batches : List ℕ) → batches_in records ≡ batches → length records ≡ length batches
-length_of records batches e = sym (length-map records (λ (r : Record Agg). r.batch)) ∙ ap length e
+placed_valid : (V : Agg → Type 0) (p : ℕ) (xs : List (List ℕ × Agg)) (rest : List (ℕ × (List ℕ × Agg))) → AllByRecursion (λ x. V x.1) xs → AllByRecursion (λ e. V e.value) (map emission_at rest)
+    → AllByRecursion (λ e. V e.value) (map emission_at (placed p xs ++ rest))
+placed_valid V p [] rest h r = r
+placed_valid V p (x ∷ xs) rest h r = (h.0, placed_valid V p xs rest h.1 r)
 
-module _ (c : CheckedProgram) (log : List Logged) (services : List Rows) (stores : StoresValue OnlineM) (first records : List (Record Agg))
-    (are_stores : AreStores c online_monoid stores) (bare_first : first ≡ bare (map (batch_in c) log)) (added : records ≡ with_stores (plus_at c) (emitted c log services) (length c.declared.stores) first)
+-- what is emitted is valid where all that is fed is
+record_valid : (V : Agg → Type 0) (F : Logged → List (List ℕ × Agg)) (log : List Logged) → AllByRecursion (λ r. AllByRecursion (λ x. V x.1) (F r)) log → AllByRecursion (λ e. V e.value) (map emission_at (by_record F log))
+record_valid V F [] h = tt
+record_valid V F (r ∷ log) h = placed_valid V r.position (F r) (by_record F log) h.0 (record_valid V F log h.1)
+
+placed_within : (n p : ℕ) (xs : List (List ℕ × Agg)) (rest : List (ℕ × (List ℕ × Agg))) → p < n → AllByRecursion (λ e. e.position < n) (map emission_at rest) → AllByRecursion (λ e. e.position < n) (map emission_at (placed p xs ++ rest))
+placed_within n p [] rest h r = r
+placed_within n p (x ∷ xs) rest h r = (h, placed_within n p xs rest h r)
+
+-- emissions stand at records of the log
+record_within : (F : Logged → List (List ℕ × Agg)) (i n : ℕ) (log : List Logged) → HavePlaces i log → i + length log ≤ n → AllByRecursion (λ e. e.position < n) (map emission_at (by_record F log))
+record_within F i n [] h le = tt
+record_within F i n (r ∷ log) h le = placed_within n r.position (F r) (by_record F log) (omega (arith, h.0, le)) (record_within F (suc i) n log h.1 (omega (arith, le)))
+
+all_rising : (c : CheckedProgram) (services : List Rows) (log : List Logged) → AreRising (map (record_in c services) log)
+all_rising c services [] = tt
+all_rising c services (r ∷ log) = (rising_below (plus_at c) (λ store. fed_at (planned c) services store r) (length (planned c).stores), all_rising c services log)
+
+all_batches : (c : CheckedProgram) (services : List Rows) (log : List Logged) → map (λ r. r.batch) (map (record_in c services) log) ≡ map (batch_in c) log
+all_batches c services [] = refl
+all_batches c services (r ∷ log) = ap (λ l. batch_in c r ∷ l) (all_batches c services log)
+
+-- what holds of all that records feed to a store
+pub fed_to : (c : CheckedProgram) (services : List Rows) (store : ℕ) (log : List Logged) → store < length c.declared.stores → AllByRecursion (IsFed c services) log
+    → AllByRecursion (λ r. AllByRecursion (λ x. valid_at c store x.1) (fed_at (planned c) services store r)) log
+fed_to c services store [] there h = tt
+fed_to c services store (r ∷ log) there h = (h.0 store there, fed_to c services store log there h.1)
+
+module _ (c : CheckedProgram) (log : List Logged) (services : List Rows) (stores : StoresValue OnlineM) (records : List (Record Agg))
+    (are_stores : AreStores c online_monoid stores) (is : records ≡ map (record_in c services) log)
     (places : HavePlaces 0 log) (commute : all_commute c.declared.stores ≡ true)
-    (valid : (store : ℕ) → store < length c.declared.stores → AllByRecursion (λ e. valid_at c store e.value) (emitted c log services store)) where
+    (valid : AllByRecursion (IsFed c services) log) where
   abbrev made : List (Record Agg)
-  made = with_stores (plus_at c) (emitted c log services) (length c.declared.stores) (bare (map (batch_in c) log))
+  made = map (record_in c services) log
 
-  is_made : records ≡ made
-  is_made = added ∙ ap (with_stores (plus_at c) (emitted c log services) (length c.declared.stores)) bare_first
+  abbrev due : ℕ → List (Emission Agg)
+  due store = map emission_at (by_record (fed_at (planned c) services store) log)
 
-  made_batches : batches_in made ≡ map (batch_in c) log
-  made_batches = batches_with_stores (plus_at c) (emitted c log services) (length c.declared.stores) (bare (map (batch_in c) log)) ∙ batches_bare Agg (map (batch_in c) log)
+  count : length (planned c).stores ≡ length c.declared.stores
+  count = length-map c.declared.stores feeding_of
 
-  made_length : length made ≡ length log
-  made_length = length_of made (map (batch_in c) log) made_batches ∙ length-map log (batch_in c)
+  found : (store : ℕ) → store < length c.declared.stores → (key : List ℕ) → AreFound (key_at store key) (λ i. fold_of (plus_at c store) (due store) key (λ p. p == i)) made
+  found store there key =
+      found_by_record (fed_at (planned c) services store) key (plus_at c store) (key_at store key) (record_in c services) log
+      (λ r. found_below (plus_at c) (λ s. fed_at (planned c) services s r) (length (planned c).stores) store (omega (arith, there, count)) key) places
 
   pub runs : Runs c log services (record { stores = stores; records = records })
-  runs = subst (λ rs. Runs c log services (record { stores = stores; records = rs })) (sym is_made) (record {
+  runs = subst (λ rs. Runs c log services (record { stores = stores; records = rs })) (sym is) (record {
     stores = are_stores;
-    batches = made_batches;
-    parts = λ i r at store there key. found_at (key_at store key) _ made (stores_found (plus_at c) (emitted c log services) (map (batch_in c) log) (length c.declared.stores) store there key) i r at;
-    folds = λ store there key passes. folds_same (valid_at c store) (plus_at c store) (store_laws c commute store) (key_at store key) (of_key key (emitted c log services store))
-        (all_of_key (λ x. valid_at c store x.1) key (emitted c log services store) (valid store there)) passes made
-        (rising_with_stores (plus_at c) (emitted c log services) (map (batch_in c) log) (length c.declared.stores))
-        (stores_found (plus_at c) (emitted c log services) (map (batch_in c) log) (length c.declared.stores) store there key)
-        (subst (λ n. AllByRecursion (λ x. x.0 < n) (of_key key (emitted c log services store))) (sym made_length)
-        (all_of_key (λ x. x.0 < length log) key (emitted c log services store) (emitted_within c log services store places)));
+    batches = all_batches c services log;
+    parts = λ i r at store there key.
+        subst (λ es. find key_order (key_at store key) r.parts ≡ fold_of (plus_at c store) es key (λ p. p == i)) (sym (emitted_by_record c log services store places)) (found_at (key_at store key) _ made (found store there key) i r at);
+    folds = λ store there key passes.
+        subst (λ es. fold_over (plus_at c store) (values_from (key_at store key) 0 made) passes ≡ fold_of (plus_at c store) es key passes) (sym (emitted_by_record c log services store places))
+        (folds_same (valid_at c store) (plus_at c store) (store_laws c commute store) (key_at store key) (of_key key (due store))
+        (all_of_key (λ x. valid_at c store x.1) key (due store) (record_valid (valid_at c store) (fed_at (planned c) services store) log (fed_to c services store log there valid))) passes made
+        (all_rising c services log) (found store there key)
+        (all_of_key (λ x. x.0 < length made) key (due store) (record_within (fed_at (planned c) services store) 0 (length made) log places (omega (arith, length-map log (record_in c services))))));
   })

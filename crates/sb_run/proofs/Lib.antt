@@ -1,3 +1,4 @@
+pub mod BatchValues
 pub mod Batches
 pub mod Chunks
 pub mod Endings
@@ -9,6 +10,7 @@ pub mod Sends
 pub mod Serving
 pub mod Settling
 pub mod StoreReport
+pub mod StoreRuns
 pub mod Stores
 pub mod TranscriptExamples
 pub mod Transcripts
