@@ -37,18 +37,7 @@ abbrev pub by_record : {X : Type 0} → (Logged → List X) → List Logged → 
 by_record F [] = []
 by_record F (r ∷ log) = placed r.position (F r) ++ by_record F log
 
-module _ {X Y : Type 0} where
-  -- ---- each item in its place
-
-  placed_map : (g : X → Y) (p : ℕ) (xs : List X) → map (λ x. (x.0, g x.1)) (placed p xs) ≡ placed p (map g xs)
-  placed_map g p [] = refl
-  placed_map g p (x ∷ xs) = ap (λ l. (p, g x) ∷ l) (placed_map g p xs)
-
-  pub record_map : (g : X → Y) (F : Logged → List X) (log : List Logged) → map (λ x. (x.0, g x.1)) (by_record F log) ≡ by_record (λ r. map g (F r)) log
-  record_map g F [] = refl
-  record_map g F (r ∷ log) =
-      map-append (λ (x : ℕ × X). (x.0, g x.1)) (placed r.position (F r)) (by_record F log) ∙ ap_both ◌++◌ (placed_map g r.position (F r)) (record_map g F log)
-
+module _ {X : Type 0} where
   placed_filter : (passes : X → Bool) (p : ℕ) (xs : List X) → filter (λ x. passes x.1) (placed p xs) ≡ placed p (filter passes xs)
   placed_filter passes p [] = refl
   placed_filter passes p (x ∷ xs) = elim (passes x) as (λ b. cond b ((p, x) ∷ filter (λ (y : ℕ × X). passes y.1) (placed p xs)) (filter (λ (y : ℕ × X). passes y.1) (placed p xs)) ≡ placed p (cond b (x ∷ filter passes xs) (filter passes xs))) [
@@ -60,6 +49,18 @@ module _ {X Y : Type 0} where
   record_filter passes F [] = refl
   record_filter passes F (r ∷ log) =
       filter-append (λ (x : ℕ × X). passes x.1) (placed r.position (F r)) (by_record F log) ∙ ap_both ◌++◌ (placed_filter passes r.position (F r)) (record_filter passes F log)
+
+module _ {X Y : Type 0} where
+  -- ---- each item in its place
+
+  placed_map : (g : X → Y) (p : ℕ) (xs : List X) → map (λ x. (x.0, g x.1)) (placed p xs) ≡ placed p (map g xs)
+  placed_map g p [] = refl
+  placed_map g p (x ∷ xs) = ap (λ l. (p, g x) ∷ l) (placed_map g p xs)
+
+  pub record_map : (g : X → Y) (F : Logged → List X) (log : List Logged) → map (λ x. (x.0, g x.1)) (by_record F log) ≡ by_record (λ r. map g (F r)) log
+  record_map g F [] = refl
+  record_map g F (r ∷ log) =
+      map-append (λ (x : ℕ × X). (x.0, g x.1)) (placed r.position (F r)) (by_record F log) ∙ ap_both ◌++◌ (placed_map g r.position (F r)) (record_map g F log)
 
   placed_flat : (g : X → List Y) (p : ℕ) (xs : List X) → flat_map (λ x. placed x.0 (g x.1)) (placed p xs) ≡ placed p (flat_map g xs)
   placed_flat g p [] = refl
@@ -188,7 +189,7 @@ module _ (log : List Logged) (services : List Rows) (places : HavePlaces 0 log) 
   stream_by_record = ind-Flow IsByRecord (λ x y is. subst (λ z. IsByRecord (roll-Flow z)) is (layer_by_record y))
 
   -- what each let gives, behind those that are done
-  all_given : List (Logged → List Value) → List OfRecord → List (Logged → List Value)
+  abbrev all_given : List (Logged → List Value) → List OfRecord → List (Logged → List Value)
   all_given Fs [] = Fs
   all_given Fs (g ∷ gs) = all_given (Fs ++ (λ r. g r services (at_record Fs r)) ∷ []) gs
 

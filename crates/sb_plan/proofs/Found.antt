@@ -187,5 +187,5 @@ module _ (F : Logged → List (List ℕ × Agg)) (key : List ℕ) where
       → AreFound q (λ i. fold_of add (map emission_at (by_record F log)) key (λ p. p == i)) (map records log)
   found_by_record add q records log has h =
       found_as q (λ j. fold_over add (by_record G log) (λ p. p == 0 + j)) (λ i. fold_of add (map emission_at (by_record F log)) key (λ p. p == i)) (map records log)
-      (λ i. ap (λ xs. fold_over add xs (λ p. p == i)) (sym (key_by_record log)))
+      (λ i. ap (λ k. fold_over add (by_record G log) (λ p. p == k)) (omega arith) ∙ ap (λ xs. fold_over add xs (λ p. p == i)) (sym (key_by_record log)))
       (from_place add q records 0 log has h)

@@ -1,20 +1,34 @@
 -- What paths give, stage by stage.
-use Rattle.std.proofs.Common.{◌≡◌, ℕ, zero, suc, Bool, true, false, cond, List, [], ◌∷◌, ◌++◌, map, filter, refl, sym, ap, ◌∙◌, append_assoc, append-nil}
+use Rattle.std.proofs.Common.{◌≡◌, ℕ, zero, suc, Bool, true, false, cond, List, [], ◌∷◌, ◌++◌, length, map, filter, refl, sym, ap, ◌∙◌, append_assoc, append-nil, arith}
 use Rattle.std.specs.List.{flat_map}
 use Rattle.std.specs.Borrow.{Bor}
 use Rattle.std.proofs.lemmas.List.{map-append}
 use Rattle.std.proofs.lemmas.List.Concat.{flat_map-append, flat_map_single}
 use Rattle.sb_laws.proofs.Positions.{ap_both}
-use Rattle.sb_types.specs.Value.{Value}
+use Rattle.sb_types.specs.Value.{Value, text, pair, items_of, values_of}
+use Rattle.sb_types.specs.ValView.{value_of, val_of}
+use Rattle.sb_types.proofs.ValBack.{value_of-val_of}
+use Rattle.sb_terms.specs.declared.flow.Flow.{Flow}
+use Rattle.sb_terms.specs.declared.flow.Flow.TheOpen as flow_layer
+use Rattle.sb_terms.specs.declared.flow.Flow.TheFolds.{fold-roll-Flow}
+use Rattle.sb_terms.specs.declared.flow.Flow.TheVariants as flow
+use Rattle.sb_terms.specs.declared.term.Single.TheVariants as single
 use Rattle.sb_terms.specs.declared.term.Term.{Term}
+use Rattle.sb_terms.specs.declared.term.Term.TheOpen as term_layer
+use Rattle.sb_terms.specs.declared.term.Term.TheFolds.{fold-roll-Term}
+use Rattle.sb_terms.specs.declared.term.Term.TheVariants as term
 use Rattle.sb_check.specs.Log.{Logged}
 use Rattle.sb_kind.specs.Monoids.{Monoid}
 use Rattle.sb_kind.specs.declared.agg.Agg.{Agg}
 use Rattle.sb_service.specs.Rows.{Rows}
-use Rattle.sb_meaning.specs.Expression.{ev}
-use Rattle.sb_meaning.specs.Operations.{elements_in}
+use Rattle.sb_meaning.specs.Expression.{ev, ev_layer}
+use Rattle.sb_meaning.specs.Operations.{bytes_in, elements_in}
 use Rattle.sb_meaning.specs.Streams.{is_true, join_with, list_at}
-use Rattle.sb_plan.specs.Given.{OfRecord}
+use Rattle.sb_meaning.specs.Words.{words_of}
+use Rattle.sb_meaning.proofs.Views.{ev-List}
+use Rattle.sb_plan.specs.Feeding.{made_by}
+use Rattle.sb_plan.specs.Given.{OfRecord, fed, given, given_layer}
+use Rattle.sb_plan.specs.declared.making.Ending.TheVariants as ending
 use Rattle.sb_plan.specs.Paths.{stage_gives, chain_gives, root_gives, path_gives, gives, staged}
 use Rattle.sb_plan.specs.declared.paths.Path.{Path}
 use Rattle.sb_plan.specs.declared.paths.Root.{Root}
@@ -66,6 +80,10 @@ next_staged s all done rest before after root stages h r services lets = one_sta
 pub all_staged : (s : Stage) (all done : List Path) → AreStaged s all done [] → gives done ≡ staged s (gives all)
 all_staged s all done h = λ i r services lets. (sym (append-nil (gives done r services lets)) ∙ h r services lets) i
 
+pub nothing_left : {X : Type 0} (xs : List X) → length xs ≡ 0 → xs ≡ []
+nothing_left [] e = refl
+nothing_left (x ∷ xs) e = absurd (omega (arith, e))
+
 -- ---- streams
 
 pub gives_root : (q : Root) (path : Path) → path.root ≡ q → path.stages.items ≡ [] → gives (path ∷ []) ≡ (λ r services lets. root_gives r lets q)
@@ -111,13 +129,50 @@ module _ (services : List Rows) (stages : List Stage) (v : Value) where
 
 -- ---- what comes out of stages, as it is made
 
-module _ {M : Type 0} (made : Value → M) where
-  map_flat : (f : Value → List Value) (vs : List Value) → map made (flat_map f vs) ≡ flat_map (λ v. map made (f v)) vs
+module _ {M X : Type 0} (made : Value → M) where
+  map_flat : (f : X → List Value) (vs : List X) → map made (flat_map f vs) ≡ flat_map (λ v. map made (f v)) vs
   map_flat f [] = refl
   map_flat f (v ∷ vs) = map-append made (f v) (flat_map f vs) ∙ ap (λ l. map made (f v) ++ l) (map_flat f vs)
 
   -- one more value is through
-  pub one_through : (f : Value → List Value) (out done : List M) (v : Value) (vs : List Value) → out ≡ done ++ map made (f v) → out ++ map made (flat_map f vs) ≡ done ++ map made (flat_map f (v ∷ vs))
+  pub one_through : (f : X → List Value) (out done : List M) (v : X) (vs : List X) → out ≡ done ++ map made (f v) → out ++ map made (flat_map f vs) ≡ done ++ map made (flat_map f (v ∷ vs))
   one_through f out done v vs e =
       ap (λ l. l ++ map made (flat_map f vs)) e
       ∙ (append_assoc done (map made (f v)) (map made (flat_map f vs)) ∙ ap (λ l. done ++ l) (sym (map-append made (f v) (flat_map f vs))))
+
+-- ---- layers of streams and of expressions
+
+pub given_map : (before : Flow) (e : Term) → given (flow.Map before e) ≡ (λ r services lets. map (ev e) (given before r services lets))
+given_map before e = ap given (sym (flow.rolls-Map before e)) ∙ fold-roll-Flow OfRecord given_layer (flow_layer.Map before e)
+
+-- the elements of each list
+abbrev pub flat_by : Term → OfRecord → OfRecord
+flat_by e g r services lets = flat_map (λ v. elements_in (ev e v)) (g r services lets)
+
+pub given_flat_map : (before : Flow) (e : Term) → given (flow.FlatMap before e) ≡ flat_by e (given before)
+given_flat_map before e = ap given (sym (flow.rolls-FlatMap before e)) ∙ fold-roll-Flow OfRecord given_layer (flow_layer.FlatMap before e)
+
+-- an expression that makes a pair feeds what the pair does
+pub split_fed : (m : Monoid) (by : Term) (key value : Bor Term) → ((v : Value) → ev by v ≡ pair (ev key.now v) (ev value.now v)) → (vs : List Value) → map (fed m) (map (ev by) vs) ≡ map (made_by (ending.Split key value) m) vs
+split_fed m by key value is [] = refl
+split_fed m by key value is (v ∷ vs) = ap_both ◌∷◌ (ap (fed m) (is v)) (split_fed m by key value is vs)
+
+pub values_back : (vs : List Value) → map value_of (map val_of vs) ≡ vs
+values_back [] = refl
+values_back (v ∷ vs) = ap_both ◌∷◌ (value_of-val_of v) (values_back vs)
+
+items_back : (vs : List Value) → items_of (values_of vs) ≡ vs
+items_back [] = refl
+items_back (v ∷ vs) = ap (λ rest. v ∷ rest) (items_back vs)
+
+-- the elements of the words of a text, and of a list in brackets
+pub ev_words : (most : ℕ) (part : Term) (v : Value) → elements_in (ev (term.One (single.Words most) part) v) ≡ map text (words_of most (bytes_in (ev part v)))
+ev_words most part v =
+    ap (λ f. elements_in (f v)) (ap ev (sym (term.rolls-One (single.Words most) part)) ∙ fold-roll-Term (Value → Value) ev_layer (term_layer.One (single.Words most) part)) ∙ items_back (map text (words_of most (bytes_in (ev part v))))
+
+each_at : (v : Value) (parts : List Term) → map (λ f. f v) (map ev parts) ≡ map (λ e. ev e v) parts
+each_at v [] = refl
+each_at v (e ∷ parts) = ap (λ rest. ev e v ∷ rest) (each_at v parts)
+
+pub ev_parts : (parts : List Term) (v : Value) → elements_in (ev (term.List parts) v) ≡ map (λ e. ev e v) parts
+ev_parts parts v = ap elements_in (ev-List parts v) ∙ (items_back (map (λ f. f v) (map ev parts)) ∙ each_at v parts)

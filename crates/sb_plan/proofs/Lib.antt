@@ -5,4 +5,4 @@ pub mod Gives
 pub mod Kept
 pub mod Keys
 pub mod Placing
-pub mod Running
+pub mod Runs

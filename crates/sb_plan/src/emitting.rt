@@ -1,5 +1,5 @@
 //! Records with what they add to stores.
-ghost use Rattle.std.specs.Prelude.{◌≡◌, ◌<◌, true, IfOk, IsTrue, OnOk, length, map, slice_get};
+ghost use Rattle.std.specs.Prelude.{◌≡◌, ◌<◌, [], true, IfOk, IsTrue, OnOk, length, map, slice_get};
 ghost use Rattle.std.specs.FinMap.{is_sorted};
 ghost use Rattle.std.specs.List.{AllByRecursion};
 ghost use Rattle.sb_batcher.specs.Batches.{batch_of};
@@ -48,8 +48,8 @@ pub fn entries(
         (meant online_valid online_add stores.now.monoids)) (map entry_record entries.items)) }
 {
     let mut entries = Vec::with_capacity(alloc, records.len())?;
-    for record in records {
-        entries.push(entry(alloc, o, plan, stores, record, services)?)?;
+    for logged in records {
+        entries.push(entry(alloc, o, plan, stores, logged, services)?)?;
     }
     Ok(entries)
 }
@@ -59,39 +59,39 @@ fn entry(
     o: &Online,
     plan: &Plan<'_>,
     stores: &Stores<OnlineM>,
-    record: &LogRecord,
+    logged: &LogRecord,
     services: &[Service],
 ) -> Result<Entry<Agg>, NoMemory>
     requires plan { plan_value plan.now ≡ planned (online_of o.now) }
     requires stores { AreStores (online_of o.now) online_monoid stores.now }
-    requires within { is_batch (batch_of (online_of o.now).batching record.now.time) ≡ true }
+    requires within { is_batch (batch_of (online_of o.now).batching logged.now.time) ≡ true }
     ensures value { IfOk result (λ entry. entry_record entry
-        ≡ record_in (online_of o.now) (map view_service services.now) (logged_of record.now)) }
+        ≡ record_in (online_of o.now) (map view_service services.now) (logged_of logged.now)) }
     ensures fed { IfOk result (λ _. IsFed (online_of o.now) (map view_service services.now)
-        (logged_of record.now)) }
+        (logged_of logged.now)) }
     ensures good { IfOk result (λ entry. IsRecord
         (meant online_valid online_add stores.now.monoids) (entry_record entry)) }
 {
-    let lets = plan.let_values(alloc, record, services)?;
+    let lets = plan.let_values(alloc, logged, services)?;
     let mut parts = Vec::new(alloc);
-    add_stores(alloc, o, plan, stores, record, services, &lets, &mut parts)?;
+    add_stores(alloc, o, plan, stores, logged, services, &lets, &mut parts)?;
     Ok(Entry {
-        batch: batch_in(o, record),
+        batch: batch_in(o, logged),
         parts,
     })
 }
 
 // No record of a log has a time before that of batch 0.
-fn batch_in(o: &Online, record: &LogRecord) -> u64
-    ensures { result ≡ batch_by (online_of o.now).batching (logged_of record.now) }
+fn batch_in(o: &Online, logged: &LogRecord) -> u64
+    ensures { result ≡ batch_by (online_of o.now).batching (logged_of logged.now) }
 {
-    batch_of(o.checked().batcher(), record)
+    batch_of(o.checked().batcher(), logged)
 }
 
-fn batch_of(batcher: &Batcher, record: &LogRecord) -> u64
-    ensures { result ≡ batch_by batcher.now (logged_of record.now) }
+fn batch_of(batcher: &Batcher, logged: &LogRecord) -> u64
+    ensures { result ≡ batch_by batcher.now (logged_of logged.now) }
 {
-    batcher.batch_of(record.time).unwrap_or(0)
+    batcher.batch_of(logged.time).unwrap_or(0)
 }
 
 // Adds what a record feeds to each store, store by store.
@@ -100,7 +100,7 @@ fn add_stores(
     o: &Online,
     plan: &Plan<'_>,
     stores: &Stores<OnlineM>,
-    record: &LogRecord,
+    logged: &LogRecord,
     services: &[Service],
     lets: &[Vec<Val>],
     parts: &mut Vec<(KeyBytes, Agg)>,
@@ -108,19 +108,19 @@ fn add_stores(
     requires plan { plan_value plan.now ≡ planned (online_of o.now) }
     requires stores { AreStores (online_of o.now) online_monoid stores.now }
     requires lets { map (λ l. map value_of l.items) lets.now
-        ≡ let_values (planned (online_of o.now)) (logged_of record.now)
+        ≡ let_values (planned (online_of o.now)) (logged_of logged.now)
         (map view_service services.now) }
     requires none { parts.old.items ≡ [] }
     ensures value { OnOk result (parts.new.items ≡ parts_below (plus_at (online_of o.now))
         (λ store. fed_at (planned (online_of o.now)) (map view_service services.now) store
-        (logged_of record.now)) (length (planned (online_of o.now)).stores)) }
+        (logged_of logged.now)) (length (planned (online_of o.now)).stores)) }
     ensures fed { OnOk result (IsFed (online_of o.now) (map view_service services.now)
-        (logged_of record.now)) }
+        (logged_of logged.now)) }
     ensures valid { OnOk result (AreValid (meant online_valid online_add stores.now.monoids)
         parts.new.items) }
 {
     for store in 0..stores.len() {
-        add_store(alloc, o, plan, stores, record, services, lets, store, parts)?;
+        add_store(alloc, o, plan, stores, logged, services, lets, store, parts)?;
     }
     Ok(())
 }
@@ -130,7 +130,7 @@ fn add_store(
     o: &Online,
     plan: &Plan<'_>,
     stores: &Stores<OnlineM>,
-    record: &LogRecord,
+    logged: &LogRecord,
     services: &[Service],
     lets: &[Vec<Val>],
     store: u32,
@@ -139,22 +139,22 @@ fn add_store(
     requires plan { plan_value plan.now ≡ planned (online_of o.now) }
     requires stores { AreStores (online_of o.now) online_monoid stores.now }
     requires lets { map (λ l. map value_of l.items) lets.now
-        ≡ let_values (planned (online_of o.now)) (logged_of record.now)
+        ≡ let_values (planned (online_of o.now)) (logged_of logged.now)
         (map view_service services.now) }
     requires store { store < length stores.now.monoids }
     requires rising { IsTrue (is_sorted key_order parts.old.items) }
     requires valid { AreValid (meant online_valid online_add stores.now.monoids) parts.old.items }
     ensures value { OnOk result (parts.new.items ≡ with_fed (plus_at (online_of o.now) store) store
         (fed_at (planned (online_of o.now)) (map view_service services.now) store
-        (logged_of record.now)) parts.old.items) }
+        (logged_of logged.now)) parts.old.items) }
     ensures fed { OnOk result (AllByRecursion (λ x. valid_at (online_of o.now) store x.1)
         (fed_at (planned (online_of o.now)) (map view_service services.now) store
-        (logged_of record.now))) }
+        (logged_of logged.now))) }
     ensures valid { OnOk result (AreValid (meant online_valid online_add stores.now.monoids)
         parts.new.items) }
 {
     let mut fed = Vec::new(alloc);
-    plan.feed(alloc, record, services, lets, store, &mut fed)?;
+    plan.feed(alloc, logged, services, lets, store, &mut fed)?;
     add_fed(alloc, stores, store, fed, parts)
 }
 

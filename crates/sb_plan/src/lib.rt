@@ -14,5 +14,5 @@ mod texts;
 
 pub use batch_runner::Runner;
 pub use online_runner::OnlineRunner;
-pub use plan::{Plan, plan};
+pub use plan::{Plan, plan_of};
 pub use texts::{key_text, text_of};

@@ -108,9 +108,19 @@ fn make_of_parts(
         prepared (monoid_of kind.now) (val_of (part_value value.entry)))) }
     ensures good { IfOk result (λ m. IsOf (monoid_of kind.now) m.1) }
 {
-    let text = key_text(alloc, key.unwrap_or(&Val::Int(0)))?;
+    let text = text_of_part(alloc, key)?;
     let value = copy_part(alloc, value)?;
     Ok((text, prepare(alloc, kind, value)?))
+}
+
+// The text of a part; of one that isn't there, that of 0.
+fn text_of_part(alloc: Global, part: Option<&Val>) -> Result<Text, NoMemory>
+    ensures { IfOk result (λ text. text ≡ value_text (part_value part.entry)) }
+{
+    match part {
+        Some(part) => key_text(alloc, part),
+        None => key_text(alloc, &Val::Int(0)),
+    }
 }
 
 // The key and the value of a pair that isn't built.

@@ -17,7 +17,7 @@ ghost use Rattle.sb_service.specs.Views.{view_service};
 
 use crate::emitting::entries;
 use crate::parts::Entry;
-use crate::plan::plan;
+use crate::plan::plan_of;
 use crate::stores::Stores;
 use sb_check::{Log, Online, StoreDecl};
 use sb_feed::{BatchIndex, Family, Feed, KeyBytes, Part, Printed};
@@ -71,7 +71,7 @@ impl OnlineRunner {
     {
         let c = o.checked();
         let stores = Stores::new(dictionaries(alloc, c.stores())?)?;
-        let plan = plan(alloc, c)?;
+        let plan = plan_of(alloc, c)?;
         let entries = entries(alloc, o, &plan, &stores, log.records(), services)?;
         let index = index_of(alloc, &entries)?;
         Ok(OnlineRunner {

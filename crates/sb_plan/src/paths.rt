@@ -1,5 +1,9 @@
 //! The ways of values through a stream.
-ghost use Rattle.std.specs.Prelude.{◌≡◌, ◌++◌, IfOk};
+ghost use Rattle.std.specs.Prelude.{◌≡◌, ◌++◌, filter, map, IfOk};
+ghost use Rattle.std.specs.List.{flat_map};
+ghost use Rattle.sb_meaning.specs.Expression.{ev};
+ghost use Rattle.sb_meaning.specs.Operations.{elements_in};
+ghost use Rattle.sb_meaning.specs.Streams.{is_true, join_with, list_at};
 ghost use Rattle.sb_plan.specs.Given.{given};
 ghost use Rattle.sb_plan.specs.Paths.{gives, root_gives, staged};
 
@@ -43,13 +47,55 @@ pub fn paths<'a>(alloc: Global, flow: &'a Flow) -> Result<Vec<Path<'a>>, NoMemor
             let right = paths(alloc, right.get())?;
             both(left, right)
         }
-        Flow::Map(before, by) => staged(alloc, paths(alloc, before.get())?, Stage::Map(by)),
-        Flow::Filter(before, by) => staged(alloc, paths(alloc, before.get())?, Stage::Filter(by)),
-        Flow::FlatMap(before, by) => staged(alloc, paths(alloc, before.get())?, Stage::FlatMap(by)),
-        Flow::Join(before, number) => {
-            staged(alloc, paths(alloc, before.get())?, Stage::Join(*number))
-        }
+        Flow::Map(before, by) => mapped(alloc, paths(alloc, before.get())?, by),
+        Flow::Filter(before, by) => filtered(alloc, paths(alloc, before.get())?, by),
+        Flow::FlatMap(before, by) => flat_mapped(alloc, paths(alloc, before.get())?, by),
+        Flow::Join(before, number) => joined(alloc, paths(alloc, before.get())?, *number),
     }
+}
+
+fn mapped<'a>(
+    alloc: Global,
+    before: Vec<Path<'a>>,
+    by: &'a Term,
+) -> Result<Vec<Path<'a>>, NoMemory>
+    ensures { IfOk result (λ paths. gives paths.items
+        ≡ λ r services lets. map (ev by.now) (gives before.entry.items r services lets)) }
+{
+    staged(alloc, before, Stage::Map(by))
+}
+
+fn filtered<'a>(
+    alloc: Global,
+    before: Vec<Path<'a>>,
+    by: &'a Term,
+) -> Result<Vec<Path<'a>>, NoMemory>
+    ensures { IfOk result (λ paths. gives paths.items
+        ≡ λ r services lets. filter (is_true by.now) (gives before.entry.items r services lets)) }
+{
+    staged(alloc, before, Stage::Filter(by))
+}
+
+fn flat_mapped<'a>(
+    alloc: Global,
+    before: Vec<Path<'a>>,
+    by: &'a Term,
+) -> Result<Vec<Path<'a>>, NoMemory>
+    ensures { IfOk result (λ paths. gives paths.items ≡ λ r services lets.
+        flat_map (λ v. elements_in (ev by.now v)) (gives before.entry.items r services lets)) }
+{
+    staged(alloc, before, Stage::FlatMap(by))
+}
+
+fn joined<'a>(
+    alloc: Global,
+    before: Vec<Path<'a>>,
+    number: u64,
+) -> Result<Vec<Path<'a>>, NoMemory>
+    ensures { IfOk result (λ paths. gives paths.items ≡ λ r services lets.
+        map (join_with (list_at number services)) (gives before.entry.items r services lets)) }
+{
+    staged(alloc, before, Stage::Join(number))
 }
 
 fn path_from<'a>(alloc: Global, root: Root) -> Result<Vec<Path<'a>>, NoMemory>
@@ -64,7 +110,7 @@ fn path_from<'a>(alloc: Global, root: Root) -> Result<Vec<Path<'a>>, NoMemory>
 }
 
 fn both<'a>(left: Vec<Path<'a>>, right: Vec<Path<'a>>) -> Result<Vec<Path<'a>>, NoMemory>
-    ensures { IfOk result (λ paths. paths.items ≡ left.items ++ right.items) }
+    ensures { IfOk result (λ paths. paths.items ≡ left.entry.items ++ right.entry.items) }
 {
     let mut paths = left;
     for path in right {
@@ -79,7 +125,7 @@ fn staged<'a>(
     before: Vec<Path<'a>>,
     stage: Stage<'a>,
 ) -> Result<Vec<Path<'a>>, NoMemory>
-    ensures { IfOk result (λ paths. gives paths.items ≡ staged stage (gives before.items)) }
+    ensures { IfOk result (λ paths. gives paths.items ≡ staged stage.entry (gives before.entry.items)) }
 {
     let mut paths = Vec::with_capacity(alloc, before.len())?;
     for mut path in before {

@@ -1,13 +1,15 @@
-//! The plan of a program: what its streams do with a record, one record at a time.
-ghost use Rattle.std.specs.Prelude.{◌≡◌, ◌<◌, ◌++◌, [], map, length, slice_get, IfOk, OnOk};
+//! The plan of a program: what its streams do with a logged, one record at a time.
+ghost use Rattle.std.specs.Prelude.{◌≡◌, ◌<◌, ◌++◌, [], map, length, slice_get, IfOk, IfSome, OnOk};
 ghost use Rattle.std.specs.List.{AllByRecursion};
 ghost use Rattle.sb_check.specs.CheckedView.{checked_of};
 ghost use Rattle.sb_check.specs.Declarations.{let_of, store_of};
 ghost use Rattle.sb_check.specs.Log.{logged_of};
+ghost use Rattle.sb_meaning.specs.Expression.{ev};
 ghost use Rattle.sb_plan.specs.Given.{fed_by, feeding_of, given, let_values, planned};
 ghost use Rattle.sb_plan.specs.Paths.{gives};
 ghost use Rattle.sb_plan.specs.Plans.{EndsIn, feeding_by, is_fed, plan_value};
 ghost use Rattle.sb_service.specs.Views.{view_service};
+ghost use Rattle.sb_types.specs.Value.{Value, pair};
 ghost use Rattle.sb_types.specs.ValView.{value_of};
 
 use crate::making::{Copier, Ending, Feeder};
@@ -29,7 +31,7 @@ pub struct StorePlan<'a> {
     pub feeder: Feeder<'a>,
 }
 
-/// What the streams of a program do with a record, after producers as in Summingbird (PVLDB 7(13), 2014). Chains of stages
+/// What the streams of a program do with a logged, after producers as in Summingbird (PVLDB 7(13), 2014). Chains of stages
 /// are run value by value, and what a let gives of a record is computed once, however many streams use it.
 #[derive(Drop)]
 pub struct Plan<'a> {
@@ -38,7 +40,7 @@ pub struct Plan<'a> {
 }
 
 /// The plan of a program, lent from it.
-pub fn plan<'a>(alloc: Global, c: &'a Checked) -> Result<Plan<'a>, NoMemory>
+pub fn plan_of<'a>(alloc: Global, c: &'a Checked) -> Result<Plan<'a>, NoMemory>
     ensures { IfOk result (λ plan. plan_value plan ≡ planned (checked_of c.now)) }
 {
     let lets = plan_lets(alloc, c.lets())?;
@@ -85,10 +87,22 @@ fn split_ending<'a>(flow: &'a Flow) -> (&'a Flow, Ending<'a>)
     ensures { EndsIn flow.now result.0.now result.1 }
 {
     match flow {
-        Flow::Map(before, Term::Two(Double::Pair, key, value)) => {
-            (before.get(), Ending::Split(key.get(), value.get()))
-        }
-        flow => (flow, Ending::Pair),
+        Flow::Map(before, by) => match split_pair(by) {
+            Some((key, value)) => (before.get(), Ending::Split(key, value)),
+            None => (flow, Ending::Pair),
+        },
+        _ => (flow, Ending::Pair),
+    }
+}
+
+// The expressions of which this one makes a pair.
+fn split_pair<'a>(by: &'a Term) -> Option<(&'a Term, &'a Term)>
+    ensures { IfSome result (λ parts. (v : Value)
+        → ev by.now v ≡ pair (ev parts.0.now v) (ev parts.1.now v)) }
+{
+    match by {
+        Term::Two(Double::Pair, key, value) => Some((key.get(), value.get())),
+        _ => None,
     }
 }
 
@@ -97,17 +111,17 @@ impl<'a> Plan<'a> {
     pub fn let_values(
         &self,
         alloc: Global,
-        record: &LogRecord,
+        logged: &LogRecord,
         services: &[Service],
     ) -> Result<Vec<Vec<Val>>, NoMemory>
         ensures { IfOk result (λ lets. map (λ l. map value_of l.items) lets.items
-            ≡ let_values (plan_value self.now) (logged_of record.now)
+            ≡ let_values (plan_value self.now) (logged_of logged.now)
             (map view_service services.now)) }
     {
         let mut lets = Vec::new(alloc);
         for plan in self.lets.as_slice() {
             let mut values = Vec::new(alloc);
-            run_paths(alloc, plan, record, services, &lets, &Copier, &mut values)?;
+            run_paths(alloc, plan, logged, services, &lets, &Copier, &mut values)?;
             lets.push(values)?;
         }
         Ok(lets)
@@ -118,7 +132,7 @@ impl<'a> Plan<'a> {
     pub fn feed(
         &self,
         alloc: Global,
-        record: &LogRecord,
+        logged: &LogRecord,
         services: &[Service],
         lets: &[Vec<Val>],
         store: u32,
@@ -126,7 +140,7 @@ impl<'a> Plan<'a> {
     ) -> Result<(), NoMemory>
         requires { store < length (plan_value self.now).stores }
         ensures fed { OnOk result (out.new.items ≡ out.old.items
-            ++ fed_by (slice_get (plan_value self.now).stores store) (logged_of record.now)
+            ++ fed_by (slice_get (plan_value self.now).stores store) (logged_of logged.now)
             (map view_service services.now) (map (λ l. map value_of l.items) lets.now)) }
         ensures good { OnOk result (AllByRecursion
             (is_fed (slice_get (plan_value self.now).stores store)) out.old.items
@@ -134,6 +148,6 @@ impl<'a> Plan<'a> {
             out.new.items) }
     {
         let plan = &self.stores[store as usize];
-        run_paths(alloc, &plan.paths, record, services, lets, &plan.feeder, out)
+        run_paths(alloc, &plan.paths, logged, services, lets, &plan.feeder, out)
     }
 }

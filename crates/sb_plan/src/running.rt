@@ -1,5 +1,5 @@
 //! Values on their way through the stages of a path.
-ghost use Rattle.std.specs.Prelude.{◌≡◌, [], ◌∷◌, ◌++◌, map, IsUtf8, OnOk};
+ghost use Rattle.std.specs.Prelude.{◌≡◌, [], ◌∷◌, ◌++◌, map, IfSome, IsUtf8, OnOk};
 ghost use Rattle.std.specs.List.{AllByRecursion, flat_map};
 ghost use Rattle.sb_check.specs.Log.{logged_of};
 ghost use Rattle.sb_meaning.specs.Expression.{ev};
@@ -9,7 +9,7 @@ ghost use Rattle.sb_meaning.specs.Words.{words_of};
 ghost use Rattle.sb_meaning.specs.Streams.{list_at};
 ghost use Rattle.sb_plan.specs.Paths.{chain_gives, gives, path_gives};
 ghost use Rattle.sb_service.specs.Views.{view_service};
-ghost use Rattle.sb_types.specs.Value.{text};
+ghost use Rattle.sb_types.specs.Value.{Value, text};
 ghost use Rattle.sb_types.specs.ValView.{value_of};
 
 use crate::making::Maker;
@@ -113,10 +113,10 @@ fn run_elements<M: Maker>(
     ensures good { OnOk result (AllByRecursion (M.good maker.now) out.old.items
         → AllByRecursion (M.good maker.now) out.new.items) }
 {
+    if let Some((most, part)) = words_in(by) {
+        return run_words(alloc, most, part, stages, services, it, maker, out);
+    }
     match by {
-        Term::One(Single::Words(most), part) => {
-            run_words(alloc, *most, part.get(), stages, services, it, maker, out)
-        }
         Term::List(parts) => {
             run_parts(alloc, parts.as_slice(), stages, services, it, maker, out)
         }
@@ -124,6 +124,20 @@ fn run_elements<M: Maker>(
             let list = value(alloc, by, it)?;
             run_all(alloc, elements_of(&list), stages, services, maker, out)
         }
+    }
+}
+
+// The greatest number of words and the text, where the expression gives the words of a text.
+fn words_in<'a>(by: &'a Term) -> Option<(u64, &'a Term)>
+    ensures { IfSome result (λ words. (v : Value) → spec.elements_in (ev by.now v)
+        ≡ map text (words_of words.0 (spec.bytes_in (ev words.1.now v)))) }
+{
+    match by {
+        Term::One(op, part) => match *op {
+            Single::Words(most) => Some((most, part.get())),
+            _ => None,
+        },
+        _ => None,
     }
 }
 
@@ -226,20 +240,20 @@ fn run_all<M: Maker>(
 pub fn run_paths<M: Maker>(
     alloc: Global,
     paths: &[Path<'_>],
-    record: &LogRecord,
+    logged: &LogRecord,
     services: &[Service],
     lets: &[Vec<Val>],
     maker: &M,
     out: &mut Vec<M::Made>,
 ) -> Result<(), NoMemory>
     ensures made { OnOk result (out.new.items ≡ out.old.items ++ map (M.made maker.now)
-        (gives paths.now (logged_of record.now) (map view_service services.now)
+        (gives paths.now (logged_of logged.now) (map view_service services.now)
         (map (λ l. map value_of l.items) lets.now))) }
     ensures good { OnOk result (AllByRecursion (M.good maker.now) out.old.items
         → AllByRecursion (M.good maker.now) out.new.items) }
 {
     for path in paths {
-        run_path(alloc, path, record, services, lets, maker, out)?;
+        run_path(alloc, path, logged, services, lets, maker, out)?;
     }
     Ok(())
 }
@@ -247,24 +261,24 @@ pub fn run_paths<M: Maker>(
 fn run_path<M: Maker>(
     alloc: Global,
     path: &Path<'_>,
-    record: &LogRecord,
+    logged: &LogRecord,
     services: &[Service],
     lets: &[Vec<Val>],
     maker: &M,
     out: &mut Vec<M::Made>,
 ) -> Result<(), NoMemory>
     ensures made { OnOk result (out.new.items ≡ out.old.items ++ map (M.made maker.now)
-        (path_gives (logged_of record.now) (map view_service services.now)
+        (path_gives (logged_of logged.now) (map view_service services.now)
         (map (λ l. map value_of l.items) lets.now) path.now)) }
     ensures good { OnOk result (AllByRecursion (M.good maker.now) out.old.items
         → AllByRecursion (M.good maker.now) out.new.items) }
 {
     match path.root {
         Root::Source(number) => {
-            if u64::from(record.source) != number {
+            if u64::from(logged.source) != number {
                 return Ok(());
             }
-            let it = It::Fields(&record.fields);
+            let it = It::Fields(&logged.fields);
             run(alloc, &path.stages, services, it, maker, out)
         }
         Root::Let(number) => {
@@ -278,7 +292,7 @@ fn run_path<M: Maker>(
 fn let_at(lets: &[Vec<Val>], number: u64) -> &[Val]
     ensures { map value_of result.now ≡ list_at number (map (λ l. map value_of l.items) lets.now) }
 {
-    match lets.get(number as usize) {
+    match sqlite_items::at(lets, number as usize) {
         Some(values) => values.as_slice(),
         None => &[],
     }

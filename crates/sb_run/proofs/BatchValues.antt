@@ -3,11 +3,13 @@ use Rattle.std.proofs.Common.{◌≡◌, ◌≢◌, ℕ, zero, suc, ◌<◌, ◌
 use Rattle.std.specs.List.{flat_map}
 use Rattle.std.specs.Str.{bytes_eq}
 use Rattle.std.proofs.lemmas.List.{map-append}
+use Rattle.std.proofs.lemmas.List.Concat.{flat_map-append}
 use Rattle.std.proofs.lemmas.List.Elements.{filter-append}
 use Rattle.sb_laws.specs.Sums.{sum_of}
 use Rattle.sb_laws.specs.Tables.{values_at}
 use Rattle.sb_laws.proofs.Positions.{ap_both}
-use Rattle.sb_check.specs.Log.{HavePlaces, Logged}
+use Rattle.sb_types.specs.declared.values.LogRecord.{LogRecord}
+use Rattle.sb_check.specs.Log.{HavePlaces, Logged, logged_of}
 use Rattle.sb_check.specs.Programs.{CheckedProgram}
 use Rattle.sb_feed.specs.Keys.{key_order, same_key}
 use Rattle.sb_feed.specs.declared.key.KeyBytes.{KeyBytes}
@@ -101,3 +103,10 @@ values_are_folds c log services add store key there places =
     ∙ ap (map (λ (x : ℕ × Agg). x.1)) (sym (all_pass (by_record (λ r. fed_with key (F r)) log)))))
     ∙ (ap (λ xs. sum_of add (map (λ (x : ℕ × Agg). x.1) (filter (λ x. everywhere x.0) xs))) (sym (key_by_record F key log))
     ∙ ap (λ es. fold_of add es key everywhere) (sym (emitted_by_record c log services store places)))
+
+-- the values of a record more
+pub values_next : (c : CheckedProgram) (services : List Rows) (records : List LogRecord) (logged : LogRecord)
+    → all_values c services (map logged_of records) ++ values_of (planned c) services (logged_of logged) ≡ all_values c services (map logged_of (records ++ logged ∷ []))
+values_next c services records logged =
+    let f = values_of (planned c) services in
+    sym (ap (flat_map f) (map-append logged_of records (logged ∷ [])) ∙ (flat_map-append f (map logged_of records) (logged_of logged ∷ []) ∙ ap (λ l. flat_map f (map logged_of records) ++ l) (append-nil (f (logged_of logged)))))

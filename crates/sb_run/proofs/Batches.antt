@@ -1,5 +1,5 @@
 -- The rows of a batch's sums are its report.
-use Rattle.std.proofs.Common.{◌≡◌, ℕ, ◌+◌, ◌<◌, List, [], ◌∷◌, map, length, refl, sym, ap, ◌∙◌, arith, IsTrue}
+use Rattle.std.proofs.Common.{◌≡◌, ℕ, ◌+◌, ◌<◌, List, [], ◌∷◌, map, length, refl, sym, ap, subst, ◌∙◌, arith, IsTrue}
 use Rattle.std.specs.Prelude.{slice_get}
 use Rattle.std.proofs.lemmas.List.{length-map}
 use Rattle.std.proofs.lemmas.Option.{slice_get_within}
@@ -12,7 +12,7 @@ use Rattle.sb_feed.specs.Jobs.{AreValid}
 use Rattle.sb_feed.specs.Keys.{key_order}
 use Rattle.sb_feed.specs.declared.key.KeyBytes.{KeyBytes}
 use Rattle.sb_job.specs.Sums.{AreKeySums}
-use Rattle.sb_kind.specs.Elements.{plus}
+use Rattle.sb_kind.specs.Elements.{IsOf, plus}
 use Rattle.sb_kind.specs.declared.agg.Agg.{Agg}
 use Rattle.sb_kind.specs.declared.dictionary.KindM.{KindM}
 use Rattle.sb_laws.specs.Sums.{sum_of}
@@ -20,18 +20,27 @@ use Rattle.sb_laws.specs.Tables.{values_at}
 use Rattle.sb_plan.specs.Emitted.{emitted, fold_of, everywhere}
 use Rattle.sb_plan.specs.Given.{feeding_of, planned}
 use Rattle.sb_plan.specs.Parts.{key_at}
-use Rattle.sb_plan.specs.Runners.{AreStores, StoresValue, kind_monoid, name_at}
+use Rattle.sb_plan.specs.Runners.{AreStores, StoresValue, kind_monoid, name_at, valid_at}
 use Rattle.sb_service.specs.Rows.{Rows}
-use Rattle.sb_run.specs.Batching.{all_values, batch_row, stores}
+use Rattle.sb_run.specs.Batching.{IsFedTo, all_values, batch_row, stores}
 use Rattle.sb_run.specs.Run.{report_text, run_of, store_runs}
 use Rattle.sb_run.proofs.BatchValues.{values_are_folds}
 use Rattle.sb_run.proofs.Reports.{rows_are_reports}
 use Rattle.sb_run.proofs.StoreRuns.{runs_length, run_at, from_first, texts_from}
-use Rattle.sb_run.proofs.Stores.{plus_same, same_length}
+use Rattle.sb_run.proofs.Stores.{there, monoid_is, plus_same, valid_same, same_length}
 
 module _ (c : CheckedProgram) (log : List Logged) (services : List Rows) (runner : StoresValue KindM) (are : AreStores c kind_monoid runner) where
   many : length runner.monoids ≡ length c.declared.stores
   many = same_length kind_monoid (λ s. s.monoid) runner.monoids c.declared.stores are.monoids
+
+  pub many_planned : length runner.monoids ≡ length (planned c).stores
+  many_planned = many ∙ sym (length-map c.declared.stores feeding_of)
+
+  -- what is fed to a store is valid for its dictionary
+  pub fed_to_store : (store : ℕ) → store < length runner.monoids → (fed : List (List ℕ × Agg)) → AllByRecursion (λ x. valid_at c store x.1) fed → AllByRecursion (IsFedTo runner store) fed
+  fed_to_store store less fed h =
+      let d = there c.declared.stores store (omega (arith, less, many)) in
+      subst (λ (V : Agg → Type 0). AllByRecursion (λ x. V x.1) fed) (sym (valid_same kind_monoid runner.monoids c.declared.stores store d.0 are.monoids d.1 ∙ sym (ap IsOf (monoid_is c store d.0 d.1)))) h
 
   below_stores : (rows : List (KeyBytes × Agg)) → AreValid (stores runner) rows → AllByRecursion (λ row. row.0.store < 0 + length (store_runs c log services 0 c.declared.stores)) rows
   below_stores [] valid = tt

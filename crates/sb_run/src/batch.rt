@@ -28,7 +28,7 @@ use sb_io::{Shelf, Sink, SinkError};
 use sb_job::KeySums;
 use sb_kind::Agg;
 use sb_load::load;
-use sb_plan::{Plan, Runner, plan};
+use sb_plan::{Plan, Runner, plan_of};
 use sb_service::Service;
 use sb_text::{NoMemory, Text};
 use sb_types::{LogRecord, Val};
@@ -100,7 +100,7 @@ fn sum_log(
     ensures { IfOk result (AreKeySums (stores runner.now) (all_values (checked_of c.now)
         (map view_service services.now) (map logged_of records.now))) }
 {
-    let plan = plan(alloc, c)?;
+    let plan = plan_of(alloc, c)?;
     let sums = add_records(alloc, c, runner, &plan, records, services)?;
     let rows = sums.into_rows(alloc)?;
     Ok(rows)
@@ -123,8 +123,8 @@ fn add_records(
 {
     let mut sums = KeySums::new(alloc);
     let mut fed = Vec::new(alloc);
-    for record in records {
-        add_record(alloc, c, runner, plan, record, services, &mut fed, &mut sums)?;
+    for logged in records {
+        add_record(alloc, c, runner, plan, logged, services, &mut fed, &mut sums)?;
     }
     Ok(sums)
 }
@@ -135,7 +135,7 @@ fn add_record(
     c: &Checked,
     runner: &Runner,
     plan: &Plan<'_>,
-    record: &LogRecord,
+    logged: &LogRecord,
     services: &[Service],
     fed: &mut Vec<(Text, Agg)>,
     sums: &mut KeySums<Agg>,
@@ -149,11 +149,11 @@ fn add_record(
     ensures sums { OnOk result ((values : List (Key × Element))
         → HasKeySums (stores runner.now) values sums.old
         → HasKeySums (stores runner.now) (values ++ values_of (planned (checked_of c.now))
-        (map view_service services.now) (logged_of record.now)) sums.new) }
+        (map view_service services.now) (logged_of logged.now)) sums.new) }
 {
-    let lets = plan.let_values(alloc, record, services)?;
+    let lets = plan.let_values(alloc, logged, services)?;
     for store in 0..runner.stores() {
-        add_store(alloc, c, runner, plan, record, services, &lets, store, fed, sums)?;
+        add_store(alloc, c, runner, plan, logged, services, &lets, store, fed, sums)?;
     }
     Ok(())
 }
@@ -163,7 +163,7 @@ fn add_store(
     c: &Checked,
     runner: &Runner,
     plan: &Plan<'_>,
-    record: &LogRecord,
+    logged: &LogRecord,
     services: &[Service],
     lets: &[Vec<Val>],
     store: u32,
@@ -173,7 +173,7 @@ fn add_store(
     requires stores { AreStores (checked_of c.now) kind_monoid runner.now }
     requires plan { plan_value plan.now ≡ planned (checked_of c.now) }
     requires lets { map (λ l. map value_of l.items) lets.now
-        ≡ let_values (planned (checked_of c.now)) (logged_of record.now)
+        ≡ let_values (planned (checked_of c.now)) (logged_of logged.now)
         (map view_service services.now) }
     requires store { store < length runner.now.monoids }
     requires none { fed.old.items ≡ [] }
@@ -184,9 +184,9 @@ fn add_store(
         → HasKeySums (stores runner.now) values sums.old
         → HasKeySums (stores runner.now) (values ++ map (keyed store)
         (fed_at (planned (checked_of c.now)) (map view_service services.now) store
-        (logged_of record.now))) sums.new) }
+        (logged_of logged.now))) sums.new) }
 {
-    plan.feed(alloc, record, services, lets, store, fed)?;
+    plan.feed(alloc, logged, services, lets, store, fed)?;
     add_fed(alloc, runner, store, fed, sums)
 }
 

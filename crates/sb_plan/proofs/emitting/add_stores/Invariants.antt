@@ -12,7 +12,7 @@ use Rattle.sb_plan.proofs.emitting.add_stores.Given as goal
 abbrev pub invariant-loop-store : goal.invariant-loop-store
 invariant-loop-store l = record {
   within : l.store ≤ length l.stores.monoids;
-  value : l.parts.items ≡ parts_below (plus_at (online_of l.o)) (λ store. fed_at (planned (online_of l.o)) (map view_service l.services) store (logged_of l.record)) l.store;
-  fed : (store : ℕ) → store < l.store → AllByRecursion (λ x. valid_at (online_of l.o) store x.1) (fed_at (planned (online_of l.o)) (map view_service l.services) store (logged_of l.record));
+  value : l.parts.items ≡ parts_below (plus_at (online_of l.o)) (λ store. fed_at (planned (online_of l.o)) (map view_service l.services) store (logged_of l.logged)) l.store;
+  fed : (store : ℕ) → store < l.store → AllByRecursion (λ x. valid_at (online_of l.o) store x.1) (fed_at (planned (online_of l.o)) (map view_service l.services) store (logged_of l.logged));
   valid : AreValid (meant online_valid online_add l.stores.monoids) l.parts.items;
 }

@@ -9,11 +9,11 @@ use Rattle.sb_plan.specs.Runners.{online_add, online_valid}
 use Rattle.sb_service.specs.Views.{view_service}
 use Rattle.sb_plan.proofs.emitting.entries.Given as goal
 
-abbrev pub invariant-loop-record : goal.invariant-loop-record
-invariant-loop-record l = record {
-  value : map entry_record l.entries.items ++ map (record_in (online_of l.o) (map view_service l.services)) (map logged_of (drop l.record-index l.records))
+abbrev pub invariant-loop-logged : goal.invariant-loop-logged
+invariant-loop-logged l = record {
+  value : map entry_record l.entries.items ++ map (record_in (online_of l.o) (map view_service l.services)) (map logged_of (drop l.logged-index l.records))
       ≡ map (record_in (online_of l.o) (map view_service l.services)) (map logged_of l.records);
-  fed : AllByRecursion (IsFed (online_of l.o) (map view_service l.services)) (map logged_of (drop l.record-index l.records)) → AllByRecursion (IsFed (online_of l.o) (map view_service l.services)) (map logged_of l.records);
+  fed : AllByRecursion (IsFed (online_of l.o) (map view_service l.services)) (map logged_of (drop l.logged-index l.records)) → AllByRecursion (IsFed (online_of l.o) (map view_service l.services)) (map logged_of l.records);
   records : AllByRecursion (IsRecord (meant online_valid online_add l.stores.monoids)) (map entry_record l.entries.items);
-  within : are_in_batches (online_of l.o).batching (map logged_of (drop l.record-index l.records)) ≡ true;
+  within : are_in_batches (online_of l.o).batching (map logged_of (drop l.logged-index l.records)) ≡ true;
 }

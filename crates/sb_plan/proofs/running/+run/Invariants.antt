@@ -10,25 +10,25 @@ use Rattle.sb_types.specs.ValView.{value_of}
 use Rattle.sb_plan.proofs.running.+run.Given as goal
 
 abbrev pub decreases-run : goal.decreases-run
-decreases-run g l = length l.stages * 4
+decreases-run g l = length l.stages.now * 4
 
 abbrev pub decreases-run_mapped : goal.decreases-run_mapped
-decreases-run_mapped g l = length l.stages * 4 + 1
+decreases-run_mapped g l = length l.stages.now * 4 + 1
 
 abbrev pub decreases-run_elements : goal.decreases-run_elements
-decreases-run_elements g l = length l.stages * 4 + 3
+decreases-run_elements g l = length l.stages.now * 4 + 3
 
 abbrev pub decreases-run_words : goal.decreases-run_words
-decreases-run_words g l = length l.stages * 4 + 2
+decreases-run_words g l = length l.stages.now * 4 + 2
 
 abbrev pub decreases-run_words_in : goal.decreases-run_words_in
-decreases-run_words_in g l = length l.stages * 4 + 1
+decreases-run_words_in g l = length l.stages.now * 4 + 1
 
 abbrev pub decreases-run_parts : goal.decreases-run_parts
-decreases-run_parts g l = length l.stages * 4 + 2
+decreases-run_parts g l = length l.stages.now * 4 + 2
 
 abbrev pub decreases-run_all : goal.decreases-run_all
-decreases-run_all g l = length l.stages * 4 + 1
+decreases-run_all g l = length l.stages.now * 4 + 1
 
 abbrev pub invariant-run_words_in-loop-bytes : goal.invariant-run_words_in-loop-bytes
 invariant-run_words_in-loop-bytes g l = record {

@@ -16,5 +16,5 @@ invariant-loop-store l = record {
   within : l.store ≤ length l.runner.monoids;
   valid : AreValid (stores l.runner) l.sums;
   sums : (values : List (KeyBytes × Agg)) → HasKeySums (stores l.runner) values l.fn.sums
-      → HasKeySums (stores l.runner) (values ++ values_below (planned (checked_of l.c)) (map view_service l.services) (logged_of l.record) l.store) l.sums;
+      → HasKeySums (stores l.runner) (values ++ values_below (planned (checked_of l.c)) (map view_service l.services) (logged_of l.logged) l.store) l.sums;
 }

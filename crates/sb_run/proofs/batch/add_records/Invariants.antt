@@ -7,9 +7,9 @@ use Rattle.sb_service.specs.Views.{view_service}
 use Rattle.sb_run.specs.Batching.{all_values, stores}
 use Rattle.sb_run.proofs.batch.add_records.Given as goal
 
-abbrev pub invariant-loop-record : goal.invariant-loop-record
-invariant-loop-record l = record {
+abbrev pub invariant-loop-logged : goal.invariant-loop-logged
+invariant-loop-logged l = record {
   none : l.fed.items ≡ [];
   valid : AreValid (stores l.runner) l.sums;
-  sums : HasKeySums (stores l.runner) (all_values (checked_of l.c) (map view_service l.services) (map logged_of (take l.record-index l.records))) l.sums;
+  sums : HasKeySums (stores l.runner) (all_values (checked_of l.c) (map view_service l.services) (map logged_of (take l.logged-index l.records))) l.sums;
 }

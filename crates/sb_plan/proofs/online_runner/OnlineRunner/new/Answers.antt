@@ -13,7 +13,7 @@ use Rattle.sb_plan.specs.Entries.{entry_record}
 use Rattle.sb_plan.specs.Given.{planned}
 use Rattle.sb_plan.specs.Parts.{IsFed, record_in}
 use Rattle.sb_plan.specs.Runners.{online_add, online_monoid, online_valid}
-use Rattle.sb_plan.proofs.Running.{few_batches, runs}
+use Rattle.sb_plan.proofs.Runs.{few_batches, runs}
 use Rattle.sb_plan.proofs.online_runner.OnlineRunner.new.Goals as goal
 
 pub entries-requires-clause-plan : goal.entries-requires-clause-plan
@@ -33,11 +33,17 @@ entries-requires-clause-within c = subst (λ b. are_in_batches b (map logged_of 
 pub returns : goal.returns
 returns c =
     let is = c.checked-c.ensures.value in
+    let decls = c.stores.ensures ∙ ap (λ (p : CheckedProgram). p.declared.stores) is in
     runs (online_of c.args.o.now) (logged_in c.args.log.now) (map view_service c.args.services.now) c.in_ok-stores.stores (map entry_record c.in_ok-entries.entries.items)
-    (entries-requires-clause-stores c)
+    (record {
+      names = c.in_ok-stores.ensures.names ∙ (c.in_ok-dictionaries.ensures.names ∙ ap (map (λ (s : Store). s.name)) decls);
+      monoids = ap (map online_monoid) c.in_ok-stores.ensures.monoids ∙ (c.in_ok-dictionaries.ensures.monoids ∙ ap (map (λ (s : Store). s.monoid)) decls);
+    })
     (c.in_ok-entries.ensures.value ∙ ap (λ rs. map (record_in (online_of c.args.o.now) (map view_service c.args.services.now)) (map logged_of rs)) c.records.ensures.value)
     c.requires.placed (subst (λ (p : CheckedProgram). all_commute p.declared.stores ≡ true) is c.checked-c.ensures.any_order)
     (subst (λ rs. AllByRecursion (IsFed (online_of c.args.o.now) (map view_service c.args.services.now)) (map logged_of rs)) c.records.ensures.value c.in_ok-entries.ensures.fed)
 
 pub index_of-requires : goal.index_of-requires
-index_of-requires c = few_batches (meant online_valid online_add c.in_ok-stores.stores.monoids) (map entry_record c.deref.result.now) c.in_ok-entries.ensures.records
+index_of-requires c =
+    let d = meant online_valid online_add c.in_ok-stores.stores.monoids in
+    few_batches d (map entry_record c.deref.result.now) (subst (λ entries. AllByRecursion (IsRecord d) (map entry_record entries)) (sym c.deref.ensures.value) c.in_ok-entries.ensures.records)

@@ -9,5 +9,5 @@ use Rattle.sb_plan.proofs.plan.Plan.let_values.Given as goal
 
 abbrev pub invariant-loop-plan : goal.invariant-loop-plan
 invariant-loop-plan l =
-    lets_given (logged_of l.record) (map view_service l.services) (map (λ b. map value_of b.items) l.lets.items) (map (λ ps. gives ps.items) (drop l.plan-index l.plan-items))
-    ≡ let_values (plan_value l.self) (logged_of l.record) (map view_service l.services)
+    lets_given (logged_of l.logged) (map view_service l.services) (map (λ b. map value_of b.items) l.lets.items) (map (λ ps. gives ps.items) (drop l.plan-index l.plan-items))
+    ≡ let_values (plan_value l.self) (logged_of l.logged) (map view_service l.services)

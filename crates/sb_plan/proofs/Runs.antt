@@ -1,5 +1,5 @@
 -- A runner's records are those of its log, and its folds those of what is emitted.
-use Rattle.std.proofs.Common.{◌≡◌, ◌∙◌, ◌⊎◌, inl, inr, ℕ, zero, suc, ◌+◌, ◌<◌, ◌≤◌, Bool, true, false, ◌&&◌, List, [], ◌∷◌, map, length, Option, Some, None, refl, sym, ap, subst, add-one, arith}
+use Rattle.std.proofs.Common.{◌≡◌, ◌∙◌, ◌⊎◌, inl, inr, ℕ, zero, suc, ◌+◌, ◌<◌, ◌≤◌, Bool, true, false, ◌&&◌, List, [], ◌∷◌, ◌++◌, map, length, Option, Some, None, refl, sym, ap, subst, add-one, arith}
 use Rattle.std.specs.Prelude.{◌==◌, slice_get, slice_index_or, option_map, unwrap_or}
 use Rattle.std.specs.FinMap.{find}
 use Rattle.std.specs.List.{AllByRecursion}
@@ -27,7 +27,9 @@ use Rattle.sb_service.specs.Rows.{Rows}
 use Rattle.sb_plan.specs.Emitted.{Emission, of_key, fold_of, emitted}
 use Rattle.sb_plan.specs.Entries.{entry_record}
 use Rattle.sb_plan.specs.declared.parts.Entry.{Entry}
-use Rattle.sb_plan.specs.Given.{feeding_of, planned, fed_at}
+use Rattle.sb_types.specs.Value.{Value}
+use Rattle.sb_plan.specs.Given.{Planned, feeding_of, planned, let_values, fed_by, fed_at}
+use Rattle.sb_plan.specs.Plans.{is_fed}
 use Rattle.sb_plan.specs.Parts.{key_at, record_in, IsFed}
 use Rattle.sb_plan.specs.Runners.{StoresValue, AreStores, Runs, batch_by, batch_in, online_monoid, online_add, online_valid, plus_at, valid_at}
 use Rattle.sb_plan.proofs.Folded.{folds_same}
@@ -126,6 +128,25 @@ more_hold V n h one s less = by (split s n (omega (arith, less)))
     by : (s < n) ⊎ (n ≡ s) → V s
     by (inl k) = h s k
     by (inr e) = subst V e one
+
+-- ---- what is fed to one store
+
+is_fed_valid : (o : Option Store) (x : List ℕ × Agg) → is_fed (option_map feeding_of o) x → IsOf (monoid_in o) x.1
+is_fed_valid None x h = absurd h
+is_fed_valid (Some s) x h = h
+
+all_fed_valid : (o : Option Store) (xs : List (List ℕ × Agg)) → AllByRecursion (is_fed (option_map feeding_of o)) xs → AllByRecursion (λ x. IsOf (monoid_in o) x.1) xs
+all_fed_valid o [] h = tt
+all_fed_valid o (x ∷ xs) h = (is_fed_valid o x h.0, all_fed_valid o xs h.1)
+
+module _ (c : CheckedProgram) (services : List Rows) (r : Logged) (store : ℕ) (p : Planned) (is : p ≡ planned c) where
+  pub fed_same : (lets : List (List Value)) → lets ≡ let_values (planned c) r services → fed_by (slice_get p.stores store) r services lets ≡ fed_at (planned c) services store r
+  fed_same lets e = ap (λ q. fed_by (slice_get q.stores store) r services lets) is ∙ ap (fed_by (slice_get (planned c).stores store) r services) e
+
+  pub fed_valid : (xs : List (List ℕ × Agg)) → AllByRecursion (is_fed (slice_get p.stores store)) xs → AllByRecursion (λ x. valid_at c store x.1) xs
+  fed_valid xs h =
+      all_fed_valid (slice_get c.declared.stores store) xs
+      (subst (λ o. AllByRecursion (is_fed o) xs) (ap (λ q. slice_get q.stores store) is ∙ slice_get-map feeding_of c.declared.stores store) h)
 
 -- ---- the whole
 
