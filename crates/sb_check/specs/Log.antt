@@ -1,5 +1,5 @@
 -- The log: which lines are good, and the records that they say.
-use Rattle.std.specs.Prelude.{ℕ, ◌+◌, ◌-◌, ◌==◌, nat_lt, nat_le, ℤ, Bool, true, false, codes, List, [], ◌∷◌, length, map, fold, max, Option, Some, None, Result, Ok, Err, option_map, if◌then◌else◌, bytes_eq}
+use Rattle.std.specs.Prelude.{◌≡◌, ℕ, suc, ◌+◌, ◌-◌, ◌==◌, nat_lt, nat_le, ℤ, Bool, true, false, codes, List, [], ◌∷◌, length, map, fold, max, Option, Some, None, Result, Ok, Err, option_map, if◌then◌else◌, bytes_eq}
 use Rattle.std.specs.List.{list_all}
 use Rattle.sb_text.specs.Columns.{columns_of}
 use Rattle.sb_text.specs.Decimal.{integer}
@@ -163,3 +163,8 @@ up_to (Some batch) = batch + 1
 -- one more than the greatest batch, and 0 for the empty log
 abbrev pub batch_count : Batching → List Logged → ℕ
 batch_count b = fold (λ most r. max most (up_to (batch_of b r.time))) 0
+
+-- the records have the places from one on
+abbrev pub HavePlaces : ℕ → List Logged → Type 0
+HavePlaces i [] = Unit {0}
+HavePlaces i (r ∷ log) = (r.position ≡ i) × HavePlaces (suc i) log

@@ -11,7 +11,7 @@ use crate::declarations::{Declared, LetDecl, ServiceDecl, SourceDecl, StoreDecl}
 use crate::statements::statement;
 use sb_batcher::Batcher;
 use sb_grammar::{Program, Statement};
-use sb_terms::{Fault, Flow};
+use sb_terms::Fault;
 use sb_text::Text;
 use sqlite_items::Items;
 use std::alloc::Global;
@@ -66,15 +66,6 @@ impl Checked {
         ensures { map store_of result.now ≡ (checked_of self.now).declared.stores }
     {
         self.declared.stores.as_slice()
-    }
-
-    /// The stream that feeds a store.
-    pub fn flow(&self, store: u32) -> &Flow
-        requires { store < length (checked_of self.now).declared.stores }
-        ensures { Some result.now
-            ≡ option_map (λ s. s.flow) (slice_get (checked_of self.now).declared.stores store) }
-    {
-        &self.declared.stores.as_slice()[store as usize].flow
     }
 
     /// The name of a store, moved out; the rest is dropped.

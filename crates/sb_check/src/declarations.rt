@@ -42,14 +42,14 @@ pub struct LetDecl {
     pub stream: Streamed,
 }
 
-/// A store, the types of its keys and of the values that it takes, and the kind of its sums.
+/// A store, the types of its keys and of the values that it takes, the kind of its sums, and the stream that feeds it.
 #[derive(Drop)]
 pub struct StoreDecl {
     pub name: Text,
     pub key: Ty,
     pub value: Ty,
     pub kind: Kind,
-    pub(crate) flow: Flow,
+    pub flow: Flow,
     // The monoid's tokens, each with a space behind it.
     pub(crate) text: Vec<u8>,
     ghost spelled: { text.items ≡ monoid_text (monoid_of kind) },

@@ -7,12 +7,11 @@ use Rattle.sb_text.specs.Decimal.{integer}
 use Rattle.sb_text.specs.Lines.{Line, lines_from, onto_first}
 use Rattle.sb_types.specs.Value.{Value}
 use Rattle.sb_check.specs.Declarations.{Source}
-use Rattle.sb_check.specs.Log.{Logged, LogFault, too_many, most_line_bytes, last_batch, most_records, with_fields, in_batch, after_time, after_source, record_in, record_of, fields_in, onto_records, records_of, within_limit, log_of}
+use Rattle.sb_check.specs.Log.{HavePlaces, LogFault, Logged, after_source, after_time, fields_in, in_batch, last_batch, log_of, most_line_bytes, most_records, onto_records, record_in, record_of, records_of, too_many, with_fields, within_limit}
 use Rattle.sb_check.specs.Names.{source_named}
 use Rattle.sb_check.specs.Programs.{CheckedProgram}
 use Rattle.sb_check.specs.declared.log.LineKind.{LineKind}
 use Rattle.sb_check.specs.declared.log.LineKind.TheVariants.{TooLong, NoEnd, FarBatch}
-use Rattle.sb_load.specs.Steps.{HavePlaces}
 
 abbrev IsAt : ℕ → Logged → Type 0
 IsAt position r = r.position ≡ position

@@ -7,7 +7,7 @@ use Rattle.sb_io.specs.Shelf.{Content}
 use Rattle.sb_check.specs.CheckedView.{checked_of}
 use Rattle.sb_check.specs.Declarations.{Service}
 use Rattle.sb_check.specs.OnlineView.{online_of}
-use Rattle.sb_check.specs.Log.{Logged, logged_of}
+use Rattle.sb_check.specs.Log.{HavePlaces, Logged, logged_of}
 use Rattle.sb_check.specs.LogView.{view_log}
 use Rattle.sb_check.specs.Programs.{CheckedProgram}
 use Rattle.sb_check.specs.declared.admission.AdmitError.{AdmitError}
@@ -137,11 +137,6 @@ pub record AreNames (command : Command) (names : Said) : Type 0 where
   pub log : log_name command ≡ text_at names.log
   pub script : script_name command ≡ text_at names.script
   pub chunk : chunk_of command ≡ names.chunk
-
--- the records have the places from one on
-abbrev pub HavePlaces : ℕ → List Logged → Type 0
-HavePlaces i [] = Unit {0}
-HavePlaces i (r ∷ records) = (r.position ≡ i) × HavePlaces (suc i) records
 
 -- what is known of inputs beside what they say
 pub record AreInputs (command : Command) (i : Read) : Type 0 where

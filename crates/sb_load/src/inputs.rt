@@ -1,4 +1,5 @@
 //! The inputs of a command.
+ghost use Rattle.sb_check.specs.Log.{HavePlaces};
 ghost use Rattle.std.specs.Prelude.{◌≡◌, ◌<◌, true, [], Some, map, length, IfOk, IfErr, IfSome};
 ghost use Rattle.std.specs.List.{AllByRecursion};
 ghost use Rattle.sb_check.specs.CheckedView.{checked_of};
@@ -11,7 +12,7 @@ ghost use Rattle.sb_load.specs.Causes.{IsCausedBy, Leaves};
 ghost use Rattle.sb_load.specs.Commands.{files_of, has_services, is_online, log_name, program_name, script_name};
 ghost use Rattle.sb_load.specs.Inputs.{Loads, LoadsChecked, LoadsLog, LoadsOthers, LoadsRecords, LoadsScript, LoadsServices, WhenNamed, chunks_fit};
 ghost use Rattle.sb_load.specs.Refusals.{cause_of};
-ghost use Rattle.sb_load.specs.Steps.{AreInputs, AreNames, HavePlaces, IsAdmitted, TellsAll, inputs_of, loaded_of, records_of};
+ghost use Rattle.sb_load.specs.Steps.{AreInputs, AreNames, IsAdmitted, TellsAll, inputs_of, loaded_of, records_of};
 
 use crate::logs::{empty_log, fetch_log, fit_chunks};
 use crate::names::{Names, names_of};

@@ -1,4 +1,5 @@
 //! The log of a command, and the number of its chunks.
+ghost use Rattle.sb_check.specs.Log.{HavePlaces};
 ghost use Rattle.std.specs.Prelude.{◌≡◌, ◌<◌, [], true, is_some, length, nat_le, IfOk, OnOk, IfErr, IfSome};
 ghost use Rattle.std.specs.Int.{div_ceil};
 ghost use Rattle.sb_check.specs.CheckedView.{checked_of};
@@ -7,7 +8,7 @@ ghost use Rattle.sb_feed.specs.Limits.{most_chunks};
 ghost use Rattle.sb_io.specs.Shelf.{Fetches};
 ghost use Rattle.sb_load.specs.Commands.{chunks, log};
 ghost use Rattle.sb_load.specs.Inputs.{FitsChunks, LoadsLog, ReadsLog, chunks_fit};
-ghost use Rattle.sb_load.specs.Steps.{HavePlaces, IsCausedAt, IsRefusedAt, TellsAll, records_of};
+ghost use Rattle.sb_load.specs.Steps.{IsCausedAt, IsRefusedAt, TellsAll, records_of};
 ghost use Rattle.sb_load.specs.declared.refusal.Which.TheVariants as which;
 
 use crate::files::fetch;

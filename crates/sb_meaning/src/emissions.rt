@@ -44,9 +44,9 @@ pub fn emit_all(
         (λ e. IsOf (monoid_at (checked_of c.now) store) e.value) all.items) }
 {
     let lets = let_lists(alloc, c.lets(), log.records(), services)?;
-    let values = stream(alloc, c.flow(store), log.records(), services, &lets)?;
-    let kind = &c.stores()[store as usize].kind;
-    prepare_all(alloc, kind, values)
+    let declared = &c.stores()[store as usize];
+    let values = stream(alloc, &declared.flow, log.records(), services, &lets)?;
+    prepare_all(alloc, &declared.kind, values)
 }
 
 fn prepare_all(alloc: Global, kind: &Kind, values: Vec<At>) -> Result<Vec<Emitted>, NoMemory>

@@ -1,11 +1,14 @@
 //! The value of an expression.
 ghost use Rattle.std.specs.Prelude.{◌≡◌, map, IfOk, IfSome};
 ghost use Rattle.sb_meaning.specs.Expression.{ev};
+ghost use Rattle.sb_meaning.specs.Its.{it_value};
+ghost use Rattle.sb_meaning.specs.Operations as spec;
 ghost use Rattle.sb_types.specs.Value.{list, values_of};
 ghost use Rattle.sb_types.specs.ValView.{value_of};
 
+use crate::it::It;
 use crate::operations::{one, one_of, two, two_of};
-use crate::parts::{part_of, truth_in};
+use crate::parts::{part_of, field_at, truth_in};
 use sb_terms::{Double, Single, Term};
 use sb_text::NoMemory;
 use sb_types::{Val, copy};
@@ -14,11 +17,11 @@ use std::alloc::Global;
 
 /// The value of an expression where `it` is this value. The expressions are those of this program's own grammar.
 #[cycle(value)]
-pub fn value(alloc: Global, term: &Term, it: &Val) -> Result<Val, NoMemory>
-    ensures { IfOk result (λ v. value_of v ≡ ev term.now (value_of it.now)) }
+pub fn value(alloc: Global, term: &Term, it: It<'_>) -> Result<Val, NoMemory>
+    ensures { IfOk result (λ v. value_of v ≡ ev term.now (it_value it.entry)) }
 {
     match term {
-        Term::It => copy(alloc, it),
+        Term::It => it.copied(alloc),
         Term::Constant(constant) => copy(alloc, constant),
         Term::One(op, part) => {
             if let Some(lent) = lent(part.get(), it) {
@@ -51,9 +54,9 @@ pub fn value(alloc: Global, term: &Term, it: &Val) -> Result<Val, NoMemory>
 }
 
 #[cycle(value)]
-fn values(alloc: Global, terms: &[Term], it: &Val) -> Result<Vec<Val>, NoMemory>
+fn values(alloc: Global, terms: &[Term], it: It<'_>) -> Result<Vec<Val>, NoMemory>
     ensures { IfOk result (λ vs. map value_of vs.items
-        ≡ map (λ f. f (value_of it.now)) (map ev terms.now)) }
+        ≡ map (λ f. f (it_value it.entry)) (map ev terms.now)) }
 {
     let mut values = Vec::with_capacity(alloc, terms.len())?;
     for term in terms {
@@ -62,15 +65,27 @@ fn values(alloc: Global, terms: &[Term], it: &Val) -> Result<Vec<Val>, NoMemory>
     Ok(values)
 }
 
-// The value where it stands as a part of `it`, or as a constant.
-fn lent<'a>(term: &'a Term, it: &'a Val) -> Option<&'a Val>
-    ensures { IfSome result (λ v. value_of v.now ≡ ev term.now (value_of it.now)) }
+/// The value where it stands as a part of `it`, or as a constant; none where it has to be made.
+#[cycle(lent)]
+pub fn lent<'a>(term: &'a Term, it: It<'a>) -> Option<&'a Val>
+    ensures { IfSome result (λ v. value_of v.now ≡ ev term.now (it_value it.entry)) }
 {
     match term {
-        Term::It => Some(it),
+        Term::It => it.lent(),
         Term::Constant(constant) => Some(constant),
-        Term::One(op, part) => part_of(*op, lent(part.get(), it)?),
+        Term::One(op, part) => lent_part(*op, part.get(), it),
         _ => None,
+    }
+}
+
+// What the operation gives of a part, where that stands.
+#[cycle(lent)]
+fn lent_part<'a>(op: Single, part: &'a Term, it: It<'a>) -> Option<&'a Val>
+    ensures { IfSome result (λ v. value_of v.now ≡ spec.one op (ev part.now (it_value it.entry))) }
+{
+    match (part, it) {
+        (Term::It, It::Fields(fields)) => field_at(op, fields),
+        (part, it) => part_of(op, lent(part, it)?),
     }
 }
 

@@ -32,7 +32,8 @@ pub fn joined(
     Ok(out)
 }
 
-fn join(alloc: Global, number: u64, services: &[Service], value: Val) -> Result<Val, NoMemory>
+/// A pair with what the service of this number has at its key.
+pub fn join(alloc: Global, number: u64, services: &[Service], value: Val) -> Result<Val, NoMemory>
     ensures { IfOk result (λ v. value_of v
         ≡ spec.join_with (spec.list_at number (map view_service services.now)) (value_of value)) }
 {

@@ -8,7 +8,7 @@ use crate::parts::{
     bytes_in, copy_part, field_of, first_in, first_of, in_or, is_something, length_in, number_in,
     second_in, second_of, truth_in,
 };
-use crate::words::{lower, words};
+use crate::words::{first_words, lower};
 use sb_terms::{Comparison, Double, Single};
 use sb_text::NoMemory;
 use sb_types::{Val, compare, copy};
@@ -64,7 +64,7 @@ pub fn one_of(alloc: Global, op: Single, value: &Val) -> Result<Val, NoMemory>
         Single::Wrap => wrapped(alloc, copy(alloc, value)?),
         Single::Has => Ok(Val::Bool(is_something(value))),
         Single::Lower => lower(alloc, bytes_in(value)),
-        Single::Words(most) => words(alloc, most, bytes_in(value)),
+        Single::Words(most) => first_words(alloc, most, bytes_in(value)),
         Single::Len => Ok(Val::Int(length_in(value))),
         Single::Not => Ok(Val::Bool(!truth_in(value))),
         Single::Minus => Ok(Val::Int(number_in(value).wrapping_neg())),

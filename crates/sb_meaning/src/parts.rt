@@ -1,6 +1,7 @@
 //! What is in a value.
 ghost use Rattle.std.specs.Prelude.{◌≡◌, IsUtf8, IfOk, IfSome, map};
 ghost use Rattle.sb_meaning.specs.Operations as spec;
+ghost use Rattle.sb_types.specs.Value.{rec};
 ghost use Rattle.sb_types.specs.ValView.{value_of, view_values};
 
 use sb_terms::Single;
@@ -113,6 +114,27 @@ pub fn field_of(place: u64, whole: &Val) -> Option<&Val>
     }
 }
 
+/// The field that this operation gives of a record of these fields, and none where it gives no field.
+pub fn field_at(op: Single, fields: &Vals) -> Option<&Val>
+    ensures { IfSome result (λ part. value_of part.now ≡ spec.one op (rec (view_values fields.now))) }
+{
+    match op {
+        Single::Field(place) => nth(place as usize, fields),
+        _ => None,
+    }
+}
+
+/// A record of copies of the fields.
+pub fn copy_fields(alloc: Global, fields: &Vals) -> Result<Val, NoMemory>
+    ensures { IfOk result (λ v. value_of v ≡ rec (view_values fields.now)) }
+{
+    let mut values = Vec::with_capacity(alloc, fields.len())?;
+    for field in fields.as_slice() {
+        values.push(copy(alloc, field)?)?;
+    }
+    Ok(Val::Rec(Items::from_vec(values)))
+}
+
 fn nth(place: usize, values: &Vals) -> Option<&Val>
     ensures { spec.part_value result ≡ spec.nth place (view_values values.now) }
 {
@@ -144,6 +166,17 @@ pub fn into_elements(alloc: Global, value: Val) -> Vals
     match value {
         Val::List(elements) => elements,
         _ => Items::new(alloc),
+    }
+}
+
+/// The elements of a list, lent, and none of another type.
+#[tactic(auto, using(crate::proofs::Views::list_view, crate::proofs::Views::items_view))]
+pub fn elements_of(value: &Val) -> &[Val]
+    ensures { map value_of result.now ≡ spec.elements_in (value_of value.now) }
+{
+    match value {
+        Val::List(elements) => elements.as_slice(),
+        _ => &[],
     }
 }
 

@@ -1,16 +1,17 @@
 //! Stages of streams: each value in its place.
 ghost use Rattle.std.specs.Prelude.{◌≡◌, ◌++◌, map, reverse, IfOk, OnOk};
 ghost use Rattle.sb_check.specs.Log.{logged_of};
+ghost use Rattle.sb_meaning.specs.Its.{it_value};
 ghost use Rattle.sb_meaning.specs.Streams as spec;
 ghost use Rattle.sb_meaning.specs.Streams.{at_of};
 ghost use Rattle.sb_types.specs.ValView.{value_of};
 
 use crate::evaluation::value;
-use crate::parts::{into_elements, truth_in};
+use crate::it::It;
+use crate::parts::{copy_fields, into_elements, truth_in};
 use sb_terms::Term;
 use sb_text::NoMemory;
-use sb_types::{LogRecord, Val, Vals, copy};
-use sqlite_items::Items;
+use sb_types::{LogRecord, Val, Vals};
 use std::alloc::Global;
 
 /// A value at the position of the record that gave it.
@@ -24,20 +25,10 @@ pub fn records(alloc: Global, source: u64, log: &[LogRecord]) -> Result<Vec<At>,
     let mut out = Vec::new(alloc);
     for line in log {
         if u64::from(line.source) == source {
-            out.push((line.position, fields(alloc, line)?))?;
+            out.push((line.position, copy_fields(alloc, &line.fields)?))?;
         }
     }
     Ok(out)
-}
-
-fn fields(alloc: Global, from: &LogRecord) -> Result<Val, NoMemory>
-    ensures { IfOk result (λ v. value_of v ≡ spec.fields_of_record (logged_of from.now)) }
-{
-    let mut values = Vec::with_capacity(alloc, from.fields.len())?;
-    for field in from.fields.as_slice() {
-        values.push(copy(alloc, field)?)?;
-    }
-    Ok(Val::Rec(Items::from_vec(values)))
 }
 
 /// The value of the expression in the place of each value.
@@ -47,7 +38,7 @@ pub fn mapped(alloc: Global, term: &Term, values: &[At]) -> Result<Vec<At>, NoMe
 {
     let mut out = Vec::with_capacity(alloc, values.len())?;
     for x in values {
-        out.push((x.0, value(alloc, term, &x.1)?))?;
+        out.push((x.0, value(alloc, term, It::Value(&x.1))?))?;
     }
     Ok(out)
 }
@@ -59,15 +50,16 @@ pub fn filtered(alloc: Global, term: &Term, values: Vec<At>) -> Result<Vec<At>, 
 {
     let mut out = Vec::new(alloc);
     for x in values {
-        if is_true(alloc, term, &x.1)? {
+        if is_true(alloc, term, It::Value(&x.1))? {
             out.push(x)?;
         }
     }
     Ok(out)
 }
 
-fn is_true(alloc: Global, term: &Term, it: &Val) -> Result<bool, NoMemory>
-    ensures { IfOk result (λ truth. truth ≡ spec.is_true term.now (value_of it.now)) }
+/// Whether the expression is true of the value.
+pub fn is_true(alloc: Global, term: &Term, it: It<'_>) -> Result<bool, NoMemory>
+    ensures { IfOk result (λ truth. truth ≡ spec.is_true term.now (it_value it.entry)) }
 {
     let truth = value(alloc, term, it)?;
     Ok(truth_in(&truth))
@@ -80,7 +72,7 @@ pub fn flat_mapped(alloc: Global, term: &Term, values: &[At]) -> Result<Vec<At>,
 {
     let mut out = Vec::new(alloc);
     for x in values {
-        let list = value(alloc, term, &x.1)?;
+        let list = value(alloc, term, It::Value(&x.1))?;
         push_elements(alloc, x.0, list, &mut out)?;
     }
     Ok(out)

@@ -1,5 +1,5 @@
 //! Words of texts, and texts in lower case.
-ghost use Rattle.std.specs.Prelude.{◌≡◌, ◌<◌, ◌∷◌, IsUtf8, IfOk, IfSome, map, length};
+ghost use Rattle.std.specs.Prelude.{◌≡◌, ◌<◌, [], ◌∷◌, IsUtf8, IfOk, IfSome, MatchOption, map, length};
 ghost use Rattle.sb_meaning.specs.Words.{lowered, words_of, is_blank, is_filled, pieces, pieces_left};
 ghost use Rattle.sb_types.specs.Value.{text, list, values_of};
 ghost use Rattle.sb_types.specs.ValView.{value_of};
@@ -8,6 +8,7 @@ use crate::evaluation::listed;
 use sb_text::{NoMemory, Text};
 use sb_types::Val;
 use std::alloc::Global;
+use std::marker::Model;
 
 /// A text with A to Z as a to z; all other bytes stay.
 pub fn lower(alloc: Global, bytes: &[u8]) -> Result<Val, NoMemory>
@@ -20,7 +21,7 @@ pub fn lower(alloc: Global, bytes: &[u8]) -> Result<Val, NoMemory>
 }
 
 /// The first words of a text, at most this many: what isn't empty between tabs, LFs, CRs and spaces.
-pub fn words(alloc: Global, most: u64, bytes: &[u8]) -> Result<Val, NoMemory>
+pub fn first_words(alloc: Global, most: u64, bytes: &[u8]) -> Result<Val, NoMemory>
     requires { IsUtf8 bytes.now }
     ensures { IfOk result (λ v. value_of v
         ≡ list (values_of (map text (words_of most bytes.now)))) }
@@ -33,18 +34,61 @@ fn found_words(alloc: Global, most: u64, bytes: &[u8]) -> Result<Vec<Val>, NoMem
     ensures { IfOk result (λ found. map value_of found.items ≡ map text (words_of most bytes.now)) }
 {
     let mut found = Vec::new(alloc);
-    let mut left = Some(bytes);
-    while let Some(rest) = left {
-        if found.len() as u64 >= most {
-            return Ok(found);
-        }
-        let (piece, behind) = first_piece(rest);
-        if is_filled(piece) {
-            found.push(word(alloc, piece)?)?;
-        }
-        left = behind;
+    let mut left = Words::new(most, bytes);
+    while let Some(bytes) = left.next_word() {
+        found.push(word(alloc, bytes)?)?;
     }
     Ok(found)
+}
+
+/// The words of a text that are still to come, lent from it.
+#[derive(Drop)]
+pub struct Words<'a> {
+    most: u64,
+    rest: Option<&'a [u8]>,
+}
+
+impl<'a> Model for Words<'a> {
+    ghost use Rattle.std.specs.Prelude.{List, ℕ, IfSome, IsUtf8, filter, take};
+    ghost use Rattle.sb_meaning.specs.Words.{is_filled, pieces_left};
+
+    ghost Value = { List (List ℕ) };
+
+    ghost view = { λ s. take s.most (filter is_filled (pieces_left s.rest)) };
+
+    ghost invariant = { λ s. IfSome s.rest (λ rest. IsUtf8 rest.now) };
+}
+
+impl<'a> Words<'a> {
+    /// The first words of a text, at most this many.
+    pub fn new(most: u64, bytes: &'a [u8]) -> Self
+        requires { IsUtf8 bytes.now }
+        ensures { result ≡ words_of most bytes.now }
+    {
+        Words {
+            most,
+            rest: Some(bytes),
+        }
+    }
+
+    /// The next word.
+    pub fn next_word(&mut self) -> Option<&'a [u8]>
+        ensures word { MatchOption result (self.old ≡ []) (λ word. self.old ≡ word.now ∷ self.new) }
+        ensures utf8 { IfSome result (λ word. IsUtf8 word.now) }
+    {
+        if self.most == 0 {
+            return None;
+        }
+        while let Some(rest) = self.rest {
+            let (piece, behind) = first_piece(rest);
+            self.rest = behind;
+            if is_filled(piece) {
+                self.most -= 1;
+                return Some(piece);
+            }
+        }
+        None
+    }
 }
 
 fn is_filled(piece: &[u8]) -> bool
@@ -53,7 +97,8 @@ fn is_filled(piece: &[u8]) -> bool
     !piece.is_empty()
 }
 
-fn word(alloc: Global, bytes: &[u8]) -> Result<Val, NoMemory>
+/// A word as a text.
+pub fn word(alloc: Global, bytes: &[u8]) -> Result<Val, NoMemory>
     requires { IsUtf8 bytes.now }
     ensures { IfOk result (λ v. value_of v ≡ text bytes.now) }
 {

@@ -1,24 +1,28 @@
--- What is found at the keys of records that emissions are added to.
-use Rattle.std.proofs.Common.{◌≡◌, ◌≢◌, ℕ, zero, suc, ◌<◌, ◌≤◌, ◌⊎◌, inl, inr, Bool, true, false, cond, List, [], ◌∷◌, ◌++◌, map, filter, Option, Some, None, refl, sym, ap, subst, ◌∙◌, append_assoc, append-nil, arith}
+-- What is found at the keys of records, by what is fed to them.
+use Rattle.std.proofs.Common.{◌≡◌, ◌≢◌, ℕ, zero, suc, ◌+◌, ◌<◌, ◌≤◌, ◌⊎◌, inl, inr, Bool, true, false, cond, List, [], ◌∷◌, ◌++◌, map, filter, Option, Some, None, refl, sym, ap, subst, ◌∙◌, append_assoc, append-nil, arith}
 use Rattle.std.specs.Prelude.{◌==◌, IsTrue, slice_get}
 use Rattle.std.specs.FinMap.{find, is_sorted}
 use Rattle.std.specs.FinMap.Entries.{find_tied}
 use Rattle.std.specs.List.{AllByRecursion}
 use Rattle.std.specs.Str.{bytes_eq}
-use Rattle.std.proofs.lemmas.Bool.{eqb-true, eqb-false}
 use Rattle.std.proofs.lemmas.Bool.Decides.{nat_tests}
 use Rattle.std.proofs.lemmas.List.{map-append}
 use Rattle.std.proofs.lemmas.List.Elements.{filter-append}
 use Rattle.sb_laws.specs.Folds.{fold_over}
 use Rattle.sb_laws.specs.Sums.{sum_of}
+use Rattle.sb_laws.specs.Tables.{add_to}
+use Rattle.sb_laws.proofs.Positions.{ap_both}
 use Rattle.sb_laws.proofs.Sums.{sum_last}
 use Rattle.sb_laws.proofs.Tables.{truly, is_true, equal, plus_onto, both_some, find_add_to, sorted_add_to}
+use Rattle.sb_check.specs.Log.{HavePlaces, Logged}
 use Rattle.sb_feed.specs.declared.key.KeyBytes.{KeyBytes}
 use Rattle.sb_feed.specs.Jobs.{Record}
 use Rattle.sb_feed.specs.Keys.{key_order, same_key}
 use Rattle.sb_feed.proofs.KeyTies.{key_order_total}
+use Rattle.sb_kind.specs.declared.agg.Agg.{Agg}
 use Rattle.sb_plan.specs.Emitted.{Emission, of_key, fold_of}
-use Rattle.sb_plan.specs.Parts.{key_at, bare, added, with_part, with_emission, with_all, with_stores}
+use Rattle.sb_plan.specs.Parts.{key_at, with_fed, parts_below}
+use Rattle.sb_plan.proofs.ByRecord.{placed, by_record, emission_at}
 use Rattle.sb_plan.proofs.Keys.{ties_by_text, apart}
 
 -- the keys of each record's parts rise
@@ -29,33 +33,6 @@ AreRising records = AllByRecursion (λ r. IsTrue (is_sorted key_order r.parts)) 
 abbrev pub AreFound : {E : Type 0} → KeyBytes → (ℕ → Option E) → List (Record E) → Type 0
 AreFound key due [] = Unit {0}
 AreFound key due (r ∷ records) = (find key_order key r.parts ≡ due 0) × AreFound key (λ i. due (suc i)) records
-
--- at the keys of a store stand the folds of these emissions
-abbrev pub HasFolds : {E : Type 0} → (E → E → E) → ℕ → List (Emission E) → List (Record E) → Type 0
-HasFolds add store all records = (key : List ℕ) → AreFound (key_at store key) (λ i. fold_of add all key (λ p. p == i)) records
-
-pub found_in_bare : (E : Type 0) (key : KeyBytes) (batches : List ℕ) → AreFound key (λ (i : ℕ). None) (bare {E = E} batches)
-found_in_bare E key [] = tt
-found_in_bare E key (b ∷ batches) = (refl, found_in_bare E key batches)
-
-pub rising_bare : (E : Type 0) (batches : List ℕ) → AreRising (bare {E = E} batches)
-rising_bare E [] = tt
-rising_bare E (b ∷ batches) = (refl, rising_bare E batches)
-
-first_differs : (i : ℕ) → (0 == suc i) ≡ false
-first_differs i = grind (arith, nat_tests)
-
-later_differs : (n : ℕ) → (suc n == 0) ≡ false
-later_differs n = grind (arith, nat_tests)
-
-same_later : (n i : ℕ) → (suc n == suc i) ≡ (n == i)
-same_later n i = by _ _ refl refl
-  where
-    by : (s t : Bool) → (suc n == suc i) ≡ s → (n == i) ≡ t → s ≡ t
-    by true true e f = refl
-    by true false e f = absurd (omega (arith, eqb-true, eqb-false))
-    by false true e f = absurd (omega (arith, eqb-true, eqb-false))
-    by false false e f = refl
 
 module _ {E : Type 0} where
   pub found_as : (key : KeyBytes) (due other : ℕ → Option E) (records : List (Record E)) → ((i : ℕ) → due i ≡ other i) → AreFound key due records → AreFound key other records
@@ -68,152 +45,147 @@ module _ {E : Type 0} where
   found_at key due (x ∷ records) h zero r at = let is : x ≡ r = cc in subst (λ (y : Record E). find key_order key y.parts ≡ due 0) is h.0
   found_at key due (x ∷ records) h (suc i) r at = found_at key (λ j. due (suc j)) records h.1 i r at
 
-module _ {E : Type 0} (add : E → E → E) where
-  -- ---- folds with one emission more
+  -- ---- parts of one record
 
-  kept_last : (xs : List (ℕ × E)) (x : ℕ × E) (s : ℕ → Bool)
-      → map (λ y. y.1) (filter (λ y. s y.0) (xs ++ x ∷ [])) ≡ map (λ y. y.1) (filter (λ y. s y.0) xs) ++ cond (s x.0) (x.1 ∷ []) []
-  kept_last xs x s =
-      ap (map (λ (y : ℕ × E). y.1)) (filter-append (λ (y : ℕ × E). s y.0) xs (x ∷ []))
-      ∙ (map-append (λ (y : ℕ × E). y.1) (filter (λ y. s y.0) xs) (cond (s x.0) (x ∷ []) [])
-      ∙ ap (λ l. map (λ (y : ℕ × E). y.1) (filter (λ y. s y.0) xs) ++ l) (elim (s x.0) as (λ b. map (λ (y : ℕ × E). y.1) (cond b (x ∷ []) []) ≡ cond b (x.1 ∷ []) []) [ true ↦ refl | false ↦ refl ]))
+  -- the values that are fed with a key
+  abbrev pub fed_with : List ℕ → List (List ℕ × E) → List E
+  fed_with key fed = map (λ x. x.1) (filter (λ x. bytes_eq x.0 key) fed)
 
-  over_last : (xs : List (ℕ × E)) (x : ℕ × E) (s : ℕ → Bool)
-      → fold_over add (xs ++ x ∷ []) s ≡ cond (s x.0) (Some (plus_onto add (fold_over add xs s) x.1)) (fold_over add xs s)
-  over_last xs x s =
-      ap (sum_of add) (kept_last xs x s)
-      ∙ elim (s x.0) as (λ b. sum_of add (map (λ (y : ℕ × E). y.1) (filter (λ y. s y.0) xs) ++ cond b (x.1 ∷ []) []) ≡ cond b (Some (plus_onto add (fold_over add xs s) x.1)) (fold_over add xs s)) [
-        | true ↦ sum_last add (map (λ (y : ℕ × E). y.1) (filter (λ y. s y.0) xs)) x.1 ∙ both_some add (fold_over add xs s) x.1
-        | false ↦ ap (sum_of add) (append-nil (map (λ (y : ℕ × E). y.1) (filter (λ y. s y.0) xs)))
+  pub rising_with_fed : (add : E → E → E) (store : ℕ) (fed : List (List ℕ × E)) (parts : List (KeyBytes × E)) → IsTrue (is_sorted key_order parts) → IsTrue (is_sorted key_order (with_fed add store fed parts))
+  rising_with_fed add store [] parts up = up
+  rising_with_fed add store (x ∷ fed) parts up =
+      rising_with_fed add store fed (add_to key_order add (key_at store x.0) x.1 parts) (is_true _ (sorted_add_to key_order key_order_total add (key_at store x.0) x.1 parts (truly _ up)))
+
+  pub rising_below : (add : ℕ → E → E → E) (fed : ℕ → List (List ℕ × E)) (n : ℕ) → IsTrue (is_sorted key_order (parts_below add fed n))
+  rising_below add fed zero = refl
+  rising_below add fed (suc n) = rising_with_fed (add n) n (fed n) (parts_below add fed n) (rising_below add fed n)
+
+  module _ (add : E → E → E) where
+    -- at its key, parts have the sum; at every other key what they had
+    found_added : (q key : KeyBytes) (value : E) (parts : List (KeyBytes × E)) → IsTrue (is_sorted key_order parts)
+        → find key_order q (add_to key_order add key value parts) ≡ cond (same_key q key) (Some (plus_onto add (find key_order q parts) value)) (find key_order q parts)
+    found_added q key value parts up =
+        find_add_to key_order key_order_total add q key value parts (truly _ up)
+        ∙ elim (same_key q key) as (λ b. same_key q key ≡ b → cond b (Some (plus_onto add (find key_order key parts) value)) (find key_order q parts) ≡ cond b (Some (plus_onto add (find key_order q parts) value)) (find key_order q parts)) [
+          | true ↦ λ e. ap (λ x. Some (plus_onto add x value)) (find_tied key_order key_order_total q key (equal _ e) parts)
+          | false ↦ λ e. refl
+        ] refl
+
+    sum_next : (key : List ℕ) (done : List (List ℕ × E)) (x : List ℕ × E)
+        → sum_of add (fed_with key (done ++ x ∷ [])) ≡ cond (bytes_eq x.0 key) (Some (plus_onto add (sum_of add (fed_with key done)) x.1)) (sum_of add (fed_with key done))
+    sum_next key done x =
+        ap (λ xs. sum_of add (map (λ (y : List ℕ × E). y.1) xs)) (filter-append (λ (y : List ℕ × E). bytes_eq y.0 key) done (x ∷ []))
+        ∙ (ap (sum_of add) (map-append (λ (y : List ℕ × E). y.1) (filter (λ y. bytes_eq y.0 key) done) (cond (bytes_eq x.0 key) (x ∷ []) []))
+        ∙ elim (bytes_eq x.0 key) as (λ b. sum_of add (fed_with key done ++ map (λ (y : List ℕ × E). y.1) (cond b (x ∷ []) [])) ≡ cond b (Some (plus_onto add (sum_of add (fed_with key done)) x.1)) (sum_of add (fed_with key done))) [
+          | true ↦ sum_last add (fed_with key done) x.1 ∙ both_some add (sum_of add (fed_with key done)) x.1
+          | false ↦ ap (sum_of add) (append-nil (fed_with key done))
+        ])
+
+    -- a key of the store has the sum of what is fed with it
+    found_with : (store : ℕ) (key : List ℕ) (done fed : List (List ℕ × E)) (parts : List (KeyBytes × E)) → IsTrue (is_sorted key_order parts) → find key_order (key_at store key) parts ≡ sum_of add (fed_with key done)
+        → find key_order (key_at store key) (with_fed add store fed parts) ≡ sum_of add (fed_with key (done ++ fed))
+    found_with store key done [] parts up h = h ∙ ap (λ xs. sum_of add (fed_with key xs)) (sym (append-nil done))
+    found_with store key done (x ∷ fed) parts up h =
+        found_with store key (done ++ x ∷ []) fed (add_to key_order add (key_at store x.0) x.1 parts) (is_true _ (sorted_add_to key_order key_order_total add (key_at store x.0) x.1 parts (truly _ up)))
+        (found_added (key_at store key) (key_at store x.0) x.1 parts up
+        ∙ (ap_both (λ b s. cond b (Some (plus_onto add s x.1)) s) (ties_by_text store key x.0) h ∙ sym (sum_next key done x)))
+        ∙ ap (λ xs. sum_of add (fed_with key xs)) (append_assoc done (x ∷ []) fed)
+
+    -- a key of another store has what it had
+    others_kept : (s store : ℕ) (key : List ℕ) (fed : List (List ℕ × E)) (parts : List (KeyBytes × E)) → s ≢ store → IsTrue (is_sorted key_order parts)
+        → find key_order (key_at s key) (with_fed add store fed parts) ≡ find key_order (key_at s key) parts
+    others_kept s store key [] parts other up = refl
+    others_kept s store key (x ∷ fed) parts other up =
+        others_kept s store key fed (add_to key_order add (key_at store x.0) x.1 parts) other (is_true _ (sorted_add_to key_order key_order_total add (key_at store x.0) x.1 parts (truly _ up)))
+        ∙ (found_added (key_at s key) (key_at store x.0) x.1 parts up ∙ ap (λ b. cond b (Some (plus_onto add (find key_order (key_at s key) parts) x.1)) (find key_order (key_at s key) parts)) (apart s store key x.0 other))
+
+  module _ (add : ℕ → E → E → E) (fed : ℕ → List (List ℕ × E)) where
+    nothing_later : (n s : ℕ) → n ≤ s → (key : List ℕ) → find key_order (key_at s key) (parts_below add fed n) ≡ None
+    nothing_later zero s h key = refl
+    nothing_later (suc n) s h key = others_kept (add n) s n key (fed n) (parts_below add fed n) (λ e. absurd (omega (arith, h, e))) (rising_below add fed n) ∙ nothing_later n s (omega (arith, h)) key
+
+    below_next : (s n : ℕ) → s < suc n → (s ≡ n) ⊎ (s < n)
+    below_next zero zero h = inl refl
+    below_next zero (suc n) h = inr (omega arith)
+    below_next (suc s) zero h = absurd (omega (arith, h))
+    below_next (suc s) (suc n) h = later (below_next s n (omega (arith, h)))
+      where
+        later : (s ≡ n) ⊎ (s < n) → (suc s ≡ suc n) ⊎ (suc s < suc n)
+        later (inl e) = inl (ap suc e)
+        later (inr l) = inr (omega (arith, l))
+
+    -- a key has the sum of what is fed to its store with it
+    pub found_below : (n s : ℕ) → s < n → (key : List ℕ) → find key_order (key_at s key) (parts_below add fed n) ≡ sum_of (add s) (fed_with key (fed s))
+    found_below zero s h key = absurd (omega (arith, h))
+    found_below (suc n) s h key = next (found_below n s) (below_next s n h)
+      where
+        next : (s < n → (key : List ℕ) → find key_order (key_at s key) (parts_below add fed n) ≡ sum_of (add s) (fed_with key (fed s))) → (s ≡ n) ⊎ (s < n)
+            → find key_order (key_at s key) (parts_below add fed (suc n)) ≡ sum_of (add s) (fed_with key (fed s))
+        next before (inl e) = subst (λ s. find key_order (key_at s key) (parts_below add fed (suc n)) ≡ sum_of (add s) (fed_with key (fed s))) (sym e)
+            (found_with (add n) n key [] (fed n) (parts_below add fed n) (rising_below add fed n) (nothing_later n n (omega arith) key))
+        next before (inr l) = others_kept (add n) s n key (fed n) (parts_below add fed n) (λ e. absurd (omega (arith, l, e))) (rising_below add fed n) ∙ before l key
+
+-- ---- folds at one position
+
+module _ (F : Logged → List (List ℕ × Agg)) (key : List ℕ) where
+  abbrev G : Logged → List Agg
+  G r = fed_with key (F r)
+
+  placed_of_key : (p : ℕ) (xs : List (List ℕ × Agg)) (rest : List (Emission Agg)) → of_key key (map emission_at (placed p xs) ++ rest) ≡ placed p (fed_with key xs) ++ of_key key rest
+  placed_of_key p [] rest = refl
+  placed_of_key p (x ∷ xs) rest =
+      elim (bytes_eq x.0 key) as (λ b. map (λ (e : Emission Agg). (e.position, e.value)) (cond b (emission_at (p, x) ∷ filter (λ e. bytes_eq e.key key) (map emission_at (placed p xs) ++ rest)) (filter (λ e. bytes_eq e.key key) (map emission_at (placed p xs) ++ rest)))
+      ≡ placed p (map (λ (y : List ℕ × Agg). y.1) (cond b (x ∷ filter (λ y. bytes_eq y.0 key) xs) (filter (λ y. bytes_eq y.0 key) xs))) ++ of_key key rest) [
+        | true ↦ ap (λ l. (p, x.1) ∷ l) (placed_of_key p xs rest)
+        | false ↦ placed_of_key p xs rest
       ]
 
-  abbrev pair_of : Emission E → ℕ × E
-  pair_of x = (x.position, x.value)
+  pub key_by_record : (log : List Logged) → of_key key (map emission_at (by_record F log)) ≡ by_record G log
+  key_by_record [] = refl
+  key_by_record (r ∷ log) =
+      ap (of_key key) (map-append emission_at (placed r.position (F r)) (by_record F log))
+      ∙ (placed_of_key r.position (F r) (map emission_at (by_record F log)) ∙ ap (λ l. placed r.position (G r) ++ l) (key_by_record log))
 
-  abbrev of_one : List (Emission E) → List (ℕ × E)
-  of_one = map pair_of
+  here : (p i : ℕ) (vs : List Agg) (rest : List (ℕ × Agg)) → (p == i) ≡ true → filter (λ x. x.0 == i) (placed p vs ++ rest) ≡ placed p vs ++ filter (λ x. x.0 == i) rest
+  here p i [] rest e = refl
+  here p i (v ∷ vs) rest e = ap (λ b. cond b ((p, v) ∷ filter (λ x. x.0 == i) (placed p vs ++ rest)) (filter (λ x. x.0 == i) (placed p vs ++ rest))) e ∙ ap (λ l. (p, v) ∷ l) (here p i vs rest e)
 
-  of_key_last : (key : List ℕ) (done : List (Emission E)) (e : Emission E) → of_key key (done ++ e ∷ []) ≡ of_key key done ++ cond (bytes_eq e.key key) ((e.position, e.value) ∷ []) []
-  of_key_last key done e =
-      ap of_one (filter-append (λ (x : Emission E). bytes_eq x.key key) done (e ∷ []))
-      ∙ (map-append pair_of (filter (λ x. bytes_eq x.key key) done) (cond (bytes_eq e.key key) (e ∷ []) [])
-      ∙ ap (λ l. of_key key done ++ l) (elim (bytes_eq e.key key) as (λ b. of_one (cond b (e ∷ []) []) ≡ cond b ((e.position, e.value) ∷ []) []) [ true ↦ refl | false ↦ refl ]))
+  elsewhere : (p i : ℕ) (vs : List Agg) (rest : List (ℕ × Agg)) → (p == i) ≡ false → filter (λ x. x.0 == i) (placed p vs ++ rest) ≡ filter (λ x. x.0 == i) rest
+  elsewhere p i [] rest e = refl
+  elsewhere p i (v ∷ vs) rest e = ap (λ b. cond b ((p, v) ∷ filter (λ x. x.0 == i) (placed p vs ++ rest)) (filter (λ x. x.0 == i) (placed p vs ++ rest))) e ∙ elsewhere p i vs rest e
 
-  -- the sum of a key with one emission more, where this has the key and passes
-  abbrev due_next : Emission E → Bool → Bool → Option E → Option E
-  due_next e has_key passes sum = cond has_key (cond passes (Some (plus_onto add sum e.value)) sum) sum
+  -- behind a position nothing stands at it
+  none_at : (i k : ℕ) (log : List Logged) → i < k → HavePlaces k log → filter (λ x. x.0 == i) (by_record G log) ≡ []
+  none_at i k [] less h = refl
+  none_at i k (r ∷ log) less h = elsewhere r.position i (G r) (by_record G log) (let at = h.0 in grind (arith, nat_tests)) ∙ none_at i (suc k) log (omega (arith, less)) h.1
 
-  fold_last : (key : List ℕ) (done : List (Emission E)) (e : Emission E) (s : ℕ → Bool)
-      → fold_of add (done ++ e ∷ []) key s ≡ due_next e (bytes_eq e.key key) (s e.position) (fold_of add done key s)
-  fold_last key done e s =
-      ap (λ xs. fold_over add xs s) (of_key_last key done e)
-      ∙ elim (bytes_eq e.key key) as (λ b. fold_over add (of_key key done ++ cond b ((e.position, e.value) ∷ []) []) s ≡ due_next e b (s e.position) (fold_of add done key s)) [
-        | true ↦ over_last (of_key key done) (e.position, e.value) s
-        | false ↦ ap (λ xs. fold_over add xs s) (append-nil (of_key key done))
-      ]
+  values_placed : (p : ℕ) (vs : List Agg) → map (λ x. x.1) (placed p vs) ≡ vs
+  values_placed p [] = refl
+  values_placed p (v ∷ vs) = ap (λ l. v ∷ l) (values_placed p vs)
 
-  -- ---- records with one part more
+  -- a key that has in each record the sum of what is fed with it has the folds at its positions
+  from_place : (add : Agg → Agg → Agg) (q : KeyBytes) (records : Logged → Record Agg) (k : ℕ) (log : List Logged) → ((r : Logged) → find key_order q (records r).parts ≡ sum_of add (G r)) → HavePlaces k log
+      → AreFound q (λ j. fold_over add (by_record G log) (λ p. p == k + j)) (map records log)
+  from_place add q records k [] has h = tt
+  from_place add q records k (r ∷ log) has h =
+      let at : (r.position == k + 0) ≡ true = (let same = h.0 in grind (arith, nat_tests)) in
+      let less : k + 0 < suc k = omega arith in
+      (
+        has r
+            ∙ (ap (sum_of add) (sym (values_placed r.position (G r)))
+            ∙ ap (λ xs. sum_of add (map (λ (x : ℕ × Agg). x.1) xs))
+            (sym (here r.position (k + 0) (G r) (by_record G log) at ∙ (ap (λ l. placed r.position (G r) ++ l) (none_at (k + 0) (suc k) log less h.1) ∙ append-nil (placed r.position (G r)))))),
+        found_as q (λ j. fold_over add (by_record G log) (λ p. p == suc k + j)) (λ j. fold_over add (by_record G (r ∷ log)) (λ p. p == k + suc j)) (map records log)
+            (λ j. ap (λ xs. sum_of add (map (λ (x : ℕ × Agg). x.1) xs))
+            (let other : (r.position == k + suc j) ≡ false = (let same = h.0 in grind (arith, nat_tests)) in
+            ap (λ i. filter (λ (x : ℕ × Agg). x.0 == i) (by_record G log)) (omega arith) ∙ sym (elsewhere r.position (k + suc j) (G r) (by_record G log) other)))
+            (from_place add q records (suc k) log has h.1),
+      )
 
-  pub rising_with_part : (key : KeyBytes) (value : E) (place : ℕ) (records : List (Record E)) → AreRising records → AreRising (with_part add key value place records)
-  rising_with_part key value place [] h = tt
-  rising_with_part key value zero (r ∷ records) h = (is_true _ (sorted_add_to key_order key_order_total add key value r.parts (truly _ h.0)), h.1)
-  rising_with_part key value (suc place) (r ∷ records) h = (h.0, rising_with_part key value place records h.1)
-
-  found_in_added : (q key : KeyBytes) (value : E) (r : Record E) → IsTrue (is_sorted key_order r.parts)
-      → find key_order q (added add key value r).parts ≡ cond (same_key q key) (Some (plus_onto add (find key_order q r.parts) value)) (find key_order q r.parts)
-  found_in_added q key value r h =
-      find_add_to key_order key_order_total add q key value r.parts (truly _ h)
-      ∙ elim (same_key q key) as (λ b. same_key q key ≡ b → cond b (Some (plus_onto add (find key_order key r.parts) value)) (find key_order q r.parts) ≡ cond b (Some (plus_onto add (find key_order q r.parts) value)) (find key_order q r.parts)) [
-        | true ↦ λ e. ap (λ x. Some (plus_onto add x value)) (find_tied key_order key_order_total q key (equal _ e) r.parts)
-        | false ↦ λ e. refl
-      ] refl
-
-  abbrev one_more : KeyBytes → KeyBytes → E → Option E → Option E
-  one_more q key value sum = cond (same_key q key) (Some (plus_onto add sum value)) sum
-
-  found_with_part : (q key : KeyBytes) (value : E) (place : ℕ) (due : ℕ → Option E) (records : List (Record E)) → AreRising records → AreFound q due records
-      → AreFound q (λ i. cond (place == i) (one_more q key value (due i)) (due i)) (with_part add key value place records)
-  found_with_part q key value place due [] up h = tt
-  found_with_part q key value zero due (r ∷ records) up h = (
-    found_in_added q key value r up.0 ∙ ap (one_more q key value) h.0,
-    found_as q (λ i. due (suc i)) (λ i. cond (0 == suc i) (one_more q key value (due (suc i))) (due (suc i))) records
-        (λ i. ap (λ b. cond b (one_more q key value (due (suc i))) (due (suc i))) (sym (first_differs i))) h.1,
-  )
-  found_with_part q key value (suc place) due (r ∷ records) up h = (
-    h.0 ∙ ap (λ b. cond b (one_more q key value (due 0)) (due 0)) (sym (later_differs place)),
-    found_as q (λ i. cond (place == i) (one_more q key value (due (suc i))) (due (suc i))) (λ i. cond (suc place == suc i) (one_more q key value (due (suc i))) (due (suc i))) (with_part add key value place records)
-        (λ i. ap (λ b. cond b (one_more q key value (due (suc i))) (due (suc i))) (sym (same_later place i)))
-        (found_with_part q key value place (λ i. due (suc i)) records up.1 h.1),
-  )
-
-  -- ---- records with emissions more
-
-  two_tests : (e : Emission E) (a b c : Bool) (sum : Option E) → b ≡ c → cond a (cond b (Some (plus_onto add sum e.value)) sum) sum ≡ due_next e c a sum
-  two_tests e a true true sum h = refl
-  two_tests e true false false sum h = refl
-  two_tests e false false false sum h = refl
-  two_tests e a true false sum h = cc
-  two_tests e a false true sum h = cc
-
-  next_found : (store : ℕ) (done : List (Emission E)) (e : Emission E) (records : List (Record E)) → AreRising records → HasFolds add store done records → HasFolds add store (done ++ e ∷ []) (with_emission add store e records)
-  next_found store done e records up h key =
-      found_as (key_at store key) _ (λ i. fold_of add (done ++ e ∷ []) key (λ p. p == i)) (with_emission add store e records)
-      (λ i. two_tests e (e.position == i) (same_key (key_at store key) (key_at store e.key)) (bytes_eq e.key key) (fold_of add done key (λ p. p == i)) (ties_by_text store key e.key) ∙ sym (fold_last key done e (λ p. p == i)))
-      (found_with_part (key_at store key) (key_at store e.key) e.value e.position (λ i. fold_of add done key (λ p. p == i)) records up (h key))
-
-  pub rising_with_all : (store : ℕ) (all : List (Emission E)) (records : List (Record E)) → AreRising records → AreRising (with_all add store all records)
-  rising_with_all store [] records h = h
-  rising_with_all store (e ∷ all) records h = rising_with_all store all (with_emission add store e records) (rising_with_part (key_at store e.key) e.value e.position records h)
-
-  all_found : (store : ℕ) (done all : List (Emission E)) (records : List (Record E)) → AreRising records → HasFolds add store done records → HasFolds add store (done ++ all) (with_all add store all records)
-  all_found store done [] records up h = subst (λ es. HasFolds add store es records) (sym (append-nil done)) h
-  all_found store done (e ∷ all) records up h =
-      subst (λ es. HasFolds add store es (with_all add store all (with_emission add store e records))) (append_assoc done (e ∷ []) all)
-      (all_found store (done ++ e ∷ []) all (with_emission add store e records) (rising_with_part (key_at store e.key) e.value e.position records up) (next_found store done e records up h))
-
-  -- the keys of other stores keep what they have
-  unchanged : (a b : Bool) (value : E) (sum : Option E) → b ≡ false → cond a (cond b (Some (plus_onto add sum value)) sum) sum ≡ sum
-  unchanged a true value sum h = cc
-  unchanged true false value sum h = refl
-  unchanged false false value sum h = refl
-
-  others_kept : (s store : ℕ) (key : List ℕ) (due : ℕ → Option E) (all : List (Emission E)) (records : List (Record E)) → s ≢ store → AreRising records
-      → AreFound (key_at s key) due records → AreFound (key_at s key) due (with_all add store all records)
-  others_kept s store key due [] records other up h = h
-  others_kept s store key due (e ∷ all) records other up h =
-      others_kept s store key due all (with_emission add store e records) other (rising_with_part (key_at store e.key) e.value e.position records up)
-      (found_as (key_at s key) _ due (with_emission add store e records) (λ i. unchanged (e.position == i) (same_key (key_at s key) (key_at store e.key)) e.value (due i) (apart s store key e.key other))
-      (found_with_part (key_at s key) (key_at store e.key) e.value e.position due records up h))
-
--- ---- store by store
-
-module _ {E : Type 0} (add : ℕ → E → E → E) (emitted : ℕ → List (Emission E)) (batches : List ℕ) where
-  pub rising_with_stores : (n : ℕ) → AreRising (with_stores add emitted n (bare batches))
-  rising_with_stores zero = rising_bare E batches
-  rising_with_stores (suc n) = rising_with_all (add n) n (emitted n) (with_stores add emitted n (bare batches)) (rising_with_stores n)
-
-  nothing_later : (n s : ℕ) → n ≤ s → (key : List ℕ) → AreFound (key_at s key) (λ i. None) (with_stores add emitted n (bare batches))
-  nothing_later zero s h key = found_in_bare E (key_at s key) batches
-  nothing_later (suc n) s h key =
-      others_kept (add n) s n key (λ i. None) (emitted n) (with_stores add emitted n (bare batches)) (λ e. absurd (omega (arith, h, e))) (rising_with_stores n) (nothing_later n s (omega (arith, h)) key)
-
-  below_next : (s n : ℕ) → s < suc n → (s ≡ n) ⊎ (s < n)
-  below_next zero zero h = inl refl
-  below_next zero (suc n) h = inr (omega arith)
-  below_next (suc s) zero h = absurd (omega (arith, h))
-  below_next (suc s) (suc n) h = later (below_next s n (omega (arith, h)))
-    where
-      later : (s ≡ n) ⊎ (s < n) → (suc s ≡ suc n) ⊎ (suc s < suc n)
-      later (inl e) = inl (ap suc e)
-      later (inr l) = inr (omega (arith, l))
-
-  -- at the keys of each store that is done stand the folds of what is emitted into it
-  pub stores_found : (n s : ℕ) → s < n → HasFolds (add s) s (emitted s) (with_stores add emitted n (bare batches))
-  stores_found zero s h = absurd (omega (arith, h))
-  stores_found (suc n) s h = next (stores_found n s) (below_next s n h)
-    where
-      next : (s < n → HasFolds (add s) s (emitted s) (with_stores add emitted n (bare batches))) → (s ≡ n) ⊎ (s < n) → HasFolds (add s) s (emitted s) (with_all (add n) n (emitted n) (with_stores add emitted n (bare batches)))
-      next before (inl e) = subst (λ s. HasFolds (add s) s (emitted s) (with_all (add n) n (emitted n) (with_stores add emitted n (bare batches)))) (sym e)
-          (all_found (add n) n [] (emitted n) (with_stores add emitted n (bare batches)) (rising_with_stores n) (λ key. nothing_later n n (omega arith) key))
-      next before (inr l) = λ key. others_kept (add n) s n key (λ i. fold_of (add s) (emitted s) key (λ p. p == i)) (emitted n) (with_stores add emitted n (bare batches))
-          (λ e. absurd (omega (arith, l, e))) (rising_with_stores n) (before l key)
+  -- and so for the emissions
+  pub found_by_record : (add : Agg → Agg → Agg) (q : KeyBytes) (records : Logged → Record Agg) (log : List Logged) → ((r : Logged) → find key_order q (records r).parts ≡ sum_of add (G r)) → HavePlaces 0 log
+      → AreFound q (λ i. fold_of add (map emission_at (by_record F log)) key (λ p. p == i)) (map records log)
+  found_by_record add q records log has h =
+      found_as q (λ j. fold_over add (by_record G log) (λ p. p == 0 + j)) (λ i. fold_of add (map emission_at (by_record F log)) key (λ p. p == i)) (map records log)
+      (λ i. ap (λ k. fold_over add (by_record G log) (λ p. p == k)) (omega arith) ∙ ap (λ xs. fold_over add xs (λ p. p == i)) (sym (key_by_record log)))
+      (from_place add q records 0 log has h)

@@ -1,4 +1,4 @@
--- What records keep where emissions are added to them: their batches, and that they are records.
+-- What parts keep where values are added to them.
 use Rattle.std.proofs.Common.{◌≡◌, ℕ, zero, suc, ◌<◌, true, false, cond, List, [], ◌∷◌, map, filter, length, Some, refl, sym, ap, subst, ◌∙◌}
 use Rattle.std.specs.Prelude.{slice_get}
 use Rattle.std.specs.FinMap.Entries.{by_order}
@@ -8,33 +8,13 @@ use Rattle.std.specs.declared.cmp.Ordering.TheVariants.{Less, Equal, Greater}
 use Rattle.sb_laws.specs.Tables.{add_to}
 use Rattle.sb_laws.proofs.Tables.{is_true, truly, sorted_add_to}
 use Rattle.sb_feed.specs.declared.key.KeyBytes.{KeyBytes}
-use Rattle.sb_feed.specs.Jobs.{Record, meant, valid_by, AreValid, IsRecord}
+use Rattle.sb_feed.specs.Jobs.{meant, valid_by, AreValid}
 use Rattle.sb_feed.specs.Keys.{key_order, key_order-IsAntisymmetric}
 use Rattle.sb_feed.proofs.KeyTies.{key_order_total}
 use Rattle.sb_plan.specs.Emitted.{Emission, of_key}
-use Rattle.sb_plan.specs.Parts.{key_at, bare, with_part, with_emission, with_all, with_stores}
-
-abbrev pub batches_in : {E : Type 0} → List (Record E) → List ℕ
-batches_in = map (λ r. r.batch)
-
-pub batches_bare : (E : Type 0) (batches : List ℕ) → batches_in (bare {E = E} batches) ≡ batches
-batches_bare E [] = refl
-batches_bare E (b ∷ batches) = ap (λ bs. b ∷ bs) (batches_bare E batches)
+use Rattle.sb_plan.specs.Parts.{key_at, with_fed}
 
 module _ {E : Type 0} where
-  pub batches_with_part : (add : E → E → E) (key : KeyBytes) (value : E) (place : ℕ) (records : List (Record E)) → batches_in (with_part add key value place records) ≡ batches_in records
-  batches_with_part add key value place [] = refl
-  batches_with_part add key value zero (r ∷ records) = refl
-  batches_with_part add key value (suc place) (r ∷ records) = ap (λ bs. r.batch ∷ bs) (batches_with_part add key value place records)
-
-  pub batches_with_all : (add : E → E → E) (store : ℕ) (all : List (Emission E)) (records : List (Record E)) → batches_in (with_all add store all records) ≡ batches_in records
-  batches_with_all add store [] records = refl
-  batches_with_all add store (e ∷ all) records = batches_with_all add store all (with_emission add store e records) ∙ batches_with_part add (key_at store e.key) e.value e.position records
-
-  pub batches_with_stores : (add : ℕ → E → E → E) (emitted : ℕ → List (Emission E)) (n : ℕ) (records : List (Record E)) → batches_in (with_stores add emitted n records) ≡ batches_in records
-  batches_with_stores add emitted zero records = refl
-  batches_with_stores add emitted (suc n) records = batches_with_all (add n) n (emitted n) (with_stores add emitted n records) ∙ batches_with_stores add emitted n records
-
   -- what holds of emissions holds of a key's values
   pub all_of_key : (P : ℕ × E → Type 0) (key : List ℕ) (all : List (Emission E)) → AllByRecursion (λ e. P (e.position, e.value)) all → AllByRecursion P (of_key key all)
   all_of_key P key [] h = tt
@@ -45,7 +25,7 @@ module _ {E : Type 0} where
 
 module _ {M E : Type 0} (valid : M → E → Type 0) (add : M → E → E → E) (monoids : List M) (store : ℕ) (m : M) (at : slice_get monoids store ≡ Some m) (there : store < length monoids)
     (keeps : (a b : E) → valid m a → valid m b → valid m (add m a b)) where
-  parts_valid : (text : List ℕ) (value : E) (parts : List (KeyBytes × E)) → valid m value → AreValid (meant valid add monoids) parts → AreValid (meant valid add monoids) (add_to key_order (add m) (key_at store text) value parts)
+  pub parts_valid : (text : List ℕ) (value : E) (parts : List (KeyBytes × E)) → valid m value → AreValid (meant valid add monoids) parts → AreValid (meant valid add monoids) (add_to key_order (add m) (key_at store text) value parts)
   parts_valid text value [] v h = ((there, subst (λ o. valid_by valid o value) (sym at) v), tt)
   parts_valid text value (p ∷ parts) v h =
       elim (key_order (key_at store text) p.0) as (λ o. key_order (key_at store text) p.0 ≡ o → AreValid (meant valid add monoids)
@@ -59,16 +39,7 @@ module _ {M E : Type 0} (valid : M → E → Type 0) (add : M → E → E → E)
         | Greater ↦ λ e. (h.0, parts_valid text value parts v h.1)
       ] refl
 
-  -- records stay records where a valid element is added
-  pub records_with_part : (text : List ℕ) (value : E) (place : ℕ) (records : List (Record E)) → valid m value → AllByRecursion (IsRecord (meant valid add monoids)) records
-      → AllByRecursion (IsRecord (meant valid add monoids)) (with_part (add m) (key_at store text) value place records)
-  records_with_part text value place [] v h = tt
-  records_with_part text value zero (r ∷ records) v h = (
-    record {
-      batch = h.0.batch;
-      rising = is_true _ (sorted_add_to key_order key_order_total (add m) (key_at store text) value r.parts (truly _ h.0.rising));
-      valid = parts_valid text value r.parts v h.0.valid;
-    },
-    h.1,
-  )
-  records_with_part text value (suc place) (r ∷ records) v h = (h.0, records_with_part text value place records v h.1)
+  -- parts stay valid with valid elements
+  pub with_fed_valid : (fed : List (List ℕ × E)) (parts : List (KeyBytes × E)) → AllByRecursion (λ x. valid m x.1) fed → AreValid (meant valid add monoids) parts → AreValid (meant valid add monoids) (with_fed (add m) store fed parts)
+  with_fed_valid [] parts v h = h
+  with_fed_valid (x ∷ fed) parts v h = with_fed_valid fed (add_to key_order (add m) (key_at store x.0) x.1 parts) v.1 (parts_valid x.0 x.1 parts v.0 h)

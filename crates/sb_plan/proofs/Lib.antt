@@ -1,7 +1,8 @@
+pub mod ByRecord
 pub mod Folded
 pub mod Found
+pub mod Gives
 pub mod Kept
 pub mod Keys
 pub mod Placing
-pub mod Positions
-pub mod Running
+pub mod Runs

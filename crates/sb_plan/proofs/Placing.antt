@@ -24,7 +24,6 @@ use Rattle.sb_feed.specs.Keys.{key_order, key_order-IsAntisymmetric}
 use Rattle.sb_feed.proofs.KeyTies.{key_order_total}
 use Rattle.sb_plan.specs.declared.parts.Entry.{Entry}
 use Rattle.sb_plan.specs.Entries.{entry_record}
-use Rattle.sb_plan.specs.Parts.{with_part}
 
 module _ {E : Type 0} where
   abbrev by_keys : KeyBytes × E → KeyBytes × E → Ordering
@@ -74,25 +73,6 @@ module _ {E : Type 0} where
 
     pub added_between : (part : KeyBytes × E) (parts : List (KeyBytes × E)) (at : ℕ) → IsGap by_keys part parts at → insert parts at part ≡ add_to key_order add part.0 part.1 parts
     added_between part parts at gap = sym (added_in_gap by_keys keys_total (values_added add) part parts at gap.1.0 gap.1.1) ∙ added_as part parts
-
-    set_part : (key : KeyBytes) (value : E) (entries : List (Entry E)) (place : ℕ) (entry after : Entry E) → slice_get entries place ≡ Some entry → after.batch ≡ entry.batch
-        → after.parts.items ≡ add_to key_order add key value entry.parts.items → map entry_record (slice_set entries place after) ≡ with_part add key value place (map entry_record entries)
-    set_part key value [] place entry after at same is = cc
-    set_part key value (x ∷ entries) zero entry after at same is =
-        let e = same_some x entry at in
-        ap (λ (b : ℕ). record { batch = b; parts = after.parts.items } ∷ map entry_record entries) (same ∙ ap (λ y. y.batch) (sym e))
-        ∙ ap (λ (ps : List (KeyBytes × E)). record { batch = x.batch; parts = ps } ∷ map entry_record entries) (is ∙ ap (λ (y : Entry E). add_to key_order add key value y.parts.items) (sym e))
-    set_part key value (x ∷ entries) (suc place) entry after at same is = ap (λ rest. entry_record x ∷ rest) (set_part key value entries place entry after at same is)
-
-    -- a record whose parts have a value more
-    pub part_set : (key : KeyBytes) (value : E) (entries : List (Entry E)) (place : ℕ) (entry after : Entry E) → place < length entries → entry ≡ slice_index_or entries place entry → after.batch ≡ entry.batch
-        → after.parts.items ≡ add_to key_order add key value entry.parts.items → map entry_record (slice_set entries place after) ≡ with_part add key value place (map entry_record entries)
-    part_set key value entries place entry after there e = set_part key value entries place entry after (got entries place entry there e)
-
-  pub length_set : (entries : List (Entry E)) (place : ℕ) (after : Entry E) → length (slice_set entries place after) ≡ length entries
-  length_set [] place after = refl
-  length_set (x ∷ entries) zero after = refl
-  length_set (x ∷ entries) (suc place) after = ap suc (length_set entries place after)
 
   -- what holds of all records holds of the one at a place
   pub record_at : (P : Record E → Type 0) (entries : List (Entry E)) (place : ℕ) (entry : Entry E) → place < length entries → entry ≡ slice_index_or entries place entry

@@ -1,39 +1,35 @@
--- Records, and what emissions add to their parts.
-use Rattle.std.specs.Prelude.{ℕ, zero, suc, List, [], ◌∷◌, map}
+-- Records with the sums of what is fed to stores.
+use Rattle.std.specs.Prelude.{ℕ, zero, suc, ◌<◌, List, [], ◌∷◌, length}
+use Rattle.std.specs.List.{AllByRecursion}
 use Rattle.sb_laws.specs.Tables.{add_to}
+use Rattle.sb_check.specs.Log.{Logged}
+use Rattle.sb_check.specs.Programs.{CheckedProgram}
 use Rattle.sb_feed.specs.declared.key.KeyBytes.{KeyBytes}
 use Rattle.sb_feed.specs.Jobs.{Record}
 use Rattle.sb_feed.specs.Keys.{key_order}
-use Rattle.sb_plan.specs.Emitted.{Emission}
+use Rattle.sb_kind.specs.declared.agg.Agg.{Agg}
+use Rattle.sb_service.specs.Rows.{Rows}
+use Rattle.sb_plan.specs.Given.{fed_at, planned}
+use Rattle.sb_plan.specs.Runners.{batch_in, plus_at, valid_at}
 
 -- the key of a store that has this text
 abbrev pub key_at : ℕ → List ℕ → KeyBytes
 key_at store text = record { store = store; text = text }
 
--- the records of these batches, with no parts
-abbrev pub bare : {E : Type 0} → List ℕ → List (Record E)
-bare batches = map (λ b. record { batch = b; parts = [] }) batches
+-- parts with what is fed to a store, each value on the right of those before it
+abbrev pub with_fed : {E : Type 0} → (E → E → E) → ℕ → List (List ℕ × E) → List (KeyBytes × E) → List (KeyBytes × E)
+with_fed add store [] parts = parts
+with_fed add store (x ∷ fed) parts = with_fed add store fed (add_to key_order add (key_at store x.0) x.1 parts)
 
--- a record with a value added at a key
-abbrev pub added : {E : Type 0} → (E → E → E) → KeyBytes → E → Record E → Record E
-added add key value r = record { batch = r.batch; parts = add_to key_order add key value r.parts }
+-- the parts of what is fed to the stores below a number, store by store
+abbrev pub parts_below : {E : Type 0} → (ℕ → E → E → E) → (ℕ → List (List ℕ × E)) → ℕ → List (KeyBytes × E)
+parts_below add fed zero = []
+parts_below add fed (suc n) = with_fed (add n) n (fed n) (parts_below add fed n)
 
--- the records, where the one at a place has a value added at a key; where there is no such place, as they were
-abbrev pub with_part : {E : Type 0} → (E → E → E) → KeyBytes → E → ℕ → List (Record E) → List (Record E)
-with_part add key value i [] = []
-with_part add key value zero (r ∷ records) = added add key value r ∷ records
-with_part add key value (suc i) (r ∷ records) = r ∷ with_part add key value i records
+-- a record of a program in its batch, with the sum of what it feeds to each key
+abbrev pub record_in : CheckedProgram → List Rows → Logged → Record Agg
+record_in c services r = record { batch = batch_in c r; parts = parts_below (plus_at c) (λ store. fed_at (planned c) services store r) (length (planned c).stores) }
 
--- the records, where that at the emission's position has its value added at its key
-abbrev pub with_emission : {E : Type 0} → (E → E → E) → ℕ → Emission E → List (Record E) → List (Record E)
-with_emission add store e records = with_part add (key_at store e.key) e.value e.position records
-
--- the records with emissions into a store added, each on the right of those before it
-abbrev pub with_all : {E : Type 0} → (E → E → E) → ℕ → List (Emission E) → List (Record E) → List (Record E)
-with_all add store [] records = records
-with_all add store (e ∷ all) records = with_all add store all (with_emission add store e records)
-
--- the records with the emissions into the stores below a number added, store by store
-abbrev pub with_stores : {E : Type 0} → (ℕ → E → E → E) → (ℕ → List (Emission E)) → ℕ → List (Record E) → List (Record E)
-with_stores add emitted zero records = records
-with_stores add emitted (suc n) records = with_all (add n) n (emitted n) (with_stores add emitted n records)
+-- all that a record feeds to a store is of the store's monoid
+abbrev pub IsFed : CheckedProgram → List Rows → Logged → Type 0
+IsFed c services r = (store : ℕ) → store < length c.declared.stores → AllByRecursion (λ x. valid_at c store x.1) (fed_at (planned c) services store r)

@@ -40,11 +40,6 @@ batch_by batching r = unwrap_or (batch_of batching r.time) 0
 abbrev pub batch_in : CheckedProgram → Logged → ℕ
 batch_in c = batch_by c.batching
 
--- the records have the places from one on
-abbrev pub HavePlaces : ℕ → List Logged → Type 0
-HavePlaces i [] = Unit {0}
-HavePlaces i (r ∷ records) = (r.position ≡ i) × HavePlaces (suc i) records
-
 -- the names and dictionaries are those of the program's stores
 pub record AreStores {M : Type 0} (c : CheckedProgram) (monoid : M → Monoid) (stores : StoresValue M) : Type 0 where
   pub names : stores.names ≡ map (λ s. s.name) c.declared.stores

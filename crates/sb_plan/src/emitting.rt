@@ -1,81 +1,126 @@
-//! Records with what is emitted at them, store by store.
-ghost use Rattle.std.specs.Prelude.{◌≡◌, ◌<◌, ℕ, IfOk, OnOk, length, map, slice_get};
+//! Records with what they add to stores.
+ghost use Rattle.std.specs.Prelude.{◌≡◌, ◌<◌, [], true, IfOk, IsTrue, OnOk, length, map, slice_get};
+ghost use Rattle.std.specs.FinMap.{is_sorted};
 ghost use Rattle.std.specs.List.{AllByRecursion};
-ghost use Rattle.sb_check.specs.Log.{logged_of};
+ghost use Rattle.sb_batcher.specs.Batches.{batch_of};
+ghost use Rattle.sb_check.specs.Log.{are_in_batches, is_batch, logged_of};
 ghost use Rattle.sb_check.specs.OnlineView.{online_of};
-ghost use Rattle.sb_feed.specs.Jobs.{IsRecord, add_by, meant, valid_by};
-ghost use Rattle.sb_meaning.specs.Emissions.{emission_of, logged_in};
-ghost use Rattle.sb_plan.specs.Emitted.{by_text, emitted};
+ghost use Rattle.sb_feed.specs.Jobs.{AreValid, IsRecord, add_by, meant, valid_by};
+ghost use Rattle.sb_feed.specs.Keys.{key_order};
 ghost use Rattle.sb_plan.specs.Entries.{entry_record};
-ghost use Rattle.sb_plan.specs.Parts.{bare, with_all, with_emission, with_stores};
-ghost use Rattle.sb_plan.specs.Runners.{AreStores, HavePlaces, batch_by, online_add, online_monoid, online_valid, plus_at, valid_at};
+ghost use Rattle.sb_plan.specs.Given.{fed_at, let_values, planned};
+ghost use Rattle.sb_plan.specs.Parts.{IsFed, parts_below, record_in, with_fed};
+ghost use Rattle.sb_plan.specs.Plans.{plan_value};
+ghost use Rattle.sb_plan.specs.Runners.{AreStores, batch_by, online_add, online_monoid, online_valid, plus_at, valid_at};
 ghost use Rattle.sb_service.specs.Views.{view_service};
+ghost use Rattle.sb_types.specs.ValView.{value_of};
 
-use crate::parts::{Entry, add_at};
+use crate::parts::{Entry, add_part};
+use crate::plan::Plan;
 use crate::stores::Stores;
-use crate::texts::key_text;
 use sb_batcher::Batcher;
-use sb_check::{Log, Online};
+use sb_check::Online;
 use sb_feed::KeyBytes;
 use sb_kind::{Agg, OnlineM};
-use sb_meaning::{Emitted, emit_all};
 use sb_service::Service;
-use sb_text::NoMemory;
-use sb_types::LogRecord;
+use sb_text::{NoMemory, Text};
+use sb_types::{LogRecord, Val};
 use std::alloc::Global;
 
-/// The records of a log, each in its batch, and with no parts yet.
-pub fn bare(
+/// The records of a log, each in its batch and with the sum of what it adds to each key.
+pub fn entries(
     alloc: Global,
-    batcher: &Batcher,
+    o: &Online,
+    plan: &Plan<'_>,
+    stores: &Stores<OnlineM>,
     records: &[LogRecord],
+    services: &[Service],
 ) -> Result<Vec<Entry<Agg>>, NoMemory>
-    ensures { IfOk result (λ entries. map entry_record entries.items
-        ≡ bare (map (batch_by batcher.now) (map logged_of records.now))) }
+    requires plan { plan_value plan.now ≡ planned (online_of o.now) }
+    requires stores { AreStores (online_of o.now) online_monoid stores.now }
+    requires within { are_in_batches (online_of o.now).batching (map logged_of records.now) ≡ true }
+    ensures value { IfOk result (λ entries. map entry_record entries.items
+        ≡ map (record_in (online_of o.now) (map view_service services.now))
+        (map logged_of records.now)) }
+    ensures fed { IfOk result (λ _. AllByRecursion
+        (IsFed (online_of o.now) (map view_service services.now)) (map logged_of records.now)) }
+    ensures records { IfOk result (λ entries. AllByRecursion (IsRecord
+        (meant online_valid online_add stores.now.monoids)) (map entry_record entries.items)) }
 {
     let mut entries = Vec::with_capacity(alloc, records.len())?;
     for logged in records {
-        entries.push(Entry {
-            batch: batch_of(batcher, logged),
-            parts: Vec::new(alloc),
-        })?;
+        entries.push(entry(alloc, o, plan, stores, logged, services)?)?;
     }
     Ok(entries)
 }
 
+fn entry(
+    alloc: Global,
+    o: &Online,
+    plan: &Plan<'_>,
+    stores: &Stores<OnlineM>,
+    logged: &LogRecord,
+    services: &[Service],
+) -> Result<Entry<Agg>, NoMemory>
+    requires plan { plan_value plan.now ≡ planned (online_of o.now) }
+    requires stores { AreStores (online_of o.now) online_monoid stores.now }
+    requires within { is_batch (batch_of (online_of o.now).batching logged.now.time) ≡ true }
+    ensures value { IfOk result (λ entry. entry_record entry
+        ≡ record_in (online_of o.now) (map view_service services.now) (logged_of logged.now)) }
+    ensures fed { IfOk result (λ _. IsFed (online_of o.now) (map view_service services.now)
+        (logged_of logged.now)) }
+    ensures good { IfOk result (λ entry. IsRecord
+        (meant online_valid online_add stores.now.monoids) (entry_record entry)) }
+{
+    let lets = plan.let_values(alloc, logged, services)?;
+    let mut parts = Vec::new(alloc);
+    add_stores(alloc, o, plan, stores, logged, services, &lets, &mut parts)?;
+    Ok(Entry {
+        batch: batch_in(o, logged),
+        parts,
+    })
+}
+
 // No record of a log has a time before that of batch 0.
+fn batch_in(o: &Online, logged: &LogRecord) -> u64
+    ensures { result ≡ batch_by (online_of o.now).batching (logged_of logged.now) }
+{
+    batch_of(o.checked().batcher(), logged)
+}
+
 fn batch_of(batcher: &Batcher, logged: &LogRecord) -> u64
     ensures { result ≡ batch_by batcher.now (logged_of logged.now) }
 {
     batcher.batch_of(logged.time).unwrap_or(0)
 }
 
-/// Adds what is emitted over a log to the parts of its records, store by store.
-pub fn add_stores(
+// Adds what a record feeds to each store, store by store.
+fn add_stores(
     alloc: Global,
     o: &Online,
-    log: &Log,
-    services: &[Service],
+    plan: &Plan<'_>,
     stores: &Stores<OnlineM>,
-    entries: &mut Vec<Entry<Agg>>,
+    logged: &LogRecord,
+    services: &[Service],
+    lets: &[Vec<Val>],
+    parts: &mut Vec<(KeyBytes, Agg)>,
 ) -> Result<(), NoMemory>
+    requires plan { plan_value plan.now ≡ planned (online_of o.now) }
     requires stores { AreStores (online_of o.now) online_monoid stores.now }
-    requires placed { HavePlaces 0 (logged_in log.now) }
-    requires length { length entries.old.items ≡ length (logged_in log.now) }
-    requires records { AllByRecursion (IsRecord
-        (meant online_valid online_add stores.now.monoids)) (map entry_record entries.old.items) }
-    ensures value { OnOk result (map entry_record entries.new.items
-        ≡ with_stores (plus_at (online_of o.now))
-        (emitted (online_of o.now) (logged_in log.now) (map view_service services.now))
-        (length (online_of o.now).declared.stores) (map entry_record entries.old.items)) }
-    ensures valid { OnOk result ((store : ℕ) → store < length (online_of o.now).declared.stores
-        → AllByRecursion (λ e. valid_at (online_of o.now) store e.value)
-        (emitted (online_of o.now) (logged_in log.now) (map view_service services.now) store)) }
-    ensures records { OnOk result (AllByRecursion (IsRecord
-        (meant online_valid online_add stores.now.monoids)) (map entry_record entries.new.items)) }
+    requires lets { map (λ l. map value_of l.items) lets.now
+        ≡ let_values (planned (online_of o.now)) (logged_of logged.now)
+        (map view_service services.now) }
+    requires none { parts.old.items ≡ [] }
+    ensures value { OnOk result (parts.new.items ≡ parts_below (plus_at (online_of o.now))
+        (λ store. fed_at (planned (online_of o.now)) (map view_service services.now) store
+        (logged_of logged.now)) (length (planned (online_of o.now)).stores)) }
+    ensures fed { OnOk result (IsFed (online_of o.now) (map view_service services.now)
+        (logged_of logged.now)) }
+    ensures valid { OnOk result (AreValid (meant online_valid online_add stores.now.monoids)
+        parts.new.items) }
 {
     for store in 0..stores.len() {
-        add_store(alloc, o, log, services, stores, store, entries)?;
+        add_store(alloc, o, plan, stores, logged, services, lets, store, parts)?;
     }
     Ok(())
 }
@@ -83,86 +128,58 @@ pub fn add_stores(
 fn add_store(
     alloc: Global,
     o: &Online,
-    log: &Log,
-    services: &[Service],
+    plan: &Plan<'_>,
     stores: &Stores<OnlineM>,
+    logged: &LogRecord,
+    services: &[Service],
+    lets: &[Vec<Val>],
     store: u32,
-    entries: &mut Vec<Entry<Agg>>,
+    parts: &mut Vec<(KeyBytes, Agg)>,
 ) -> Result<(), NoMemory>
+    requires plan { plan_value plan.now ≡ planned (online_of o.now) }
     requires stores { AreStores (online_of o.now) online_monoid stores.now }
+    requires lets { map (λ l. map value_of l.items) lets.now
+        ≡ let_values (planned (online_of o.now)) (logged_of logged.now)
+        (map view_service services.now) }
     requires store { store < length stores.now.monoids }
-    requires placed { HavePlaces 0 (logged_in log.now) }
-    requires length { length entries.old.items ≡ length (logged_in log.now) }
-    requires records { AllByRecursion (IsRecord
-        (meant online_valid online_add stores.now.monoids)) (map entry_record entries.old.items) }
-    ensures length { length entries.new.items ≡ length entries.old.items }
-    ensures value { OnOk result (map entry_record entries.new.items
-        ≡ with_all (plus_at (online_of o.now) store) store
-        (emitted (online_of o.now) (logged_in log.now) (map view_service services.now) store)
-        (map entry_record entries.old.items)) }
-    ensures valid { OnOk result (AllByRecursion (λ e. valid_at (online_of o.now) store e.value)
-        (emitted (online_of o.now) (logged_in log.now) (map view_service services.now) store)) }
-    ensures records { OnOk result (AllByRecursion (IsRecord
-        (meant online_valid online_add stores.now.monoids)) (map entry_record entries.new.items)) }
+    requires rising { IsTrue (is_sorted key_order parts.old.items) }
+    requires valid { AreValid (meant online_valid online_add stores.now.monoids) parts.old.items }
+    ensures value { OnOk result (parts.new.items ≡ with_fed (plus_at (online_of o.now) store) store
+        (fed_at (planned (online_of o.now)) (map view_service services.now) store
+        (logged_of logged.now)) parts.old.items) }
+    ensures fed { OnOk result (AllByRecursion (λ x. valid_at (online_of o.now) store x.1)
+        (fed_at (planned (online_of o.now)) (map view_service services.now) store
+        (logged_of logged.now))) }
+    ensures valid { OnOk result (AreValid (meant online_valid online_add stores.now.monoids)
+        parts.new.items) }
 {
-    let all = emit_all(alloc, o.checked(), log, services, store)?;
-    add_all(alloc, stores, store, all, entries)
+    let mut fed = Vec::new(alloc);
+    plan.feed(alloc, logged, services, lets, store, &mut fed)?;
+    add_fed(alloc, stores, store, fed, parts)
 }
 
-// Adds what is emitted into a store, each value on the right of those before it.
-fn add_all(
+// Adds what is fed to a store, each value on the right of those before it.
+fn add_fed(
     alloc: Global,
     stores: &Stores<OnlineM>,
     store: u32,
-    all: Vec<Emitted>,
-    entries: &mut Vec<Entry<Agg>>,
+    fed: Vec<(Text, Agg)>,
+    parts: &mut Vec<(KeyBytes, Agg)>,
 ) -> Result<(), NoMemory>
     requires store { store < length stores.now.monoids }
-    requires places { AllByRecursion (λ e. e.position < length entries.old.items) all.items }
     requires values { AllByRecursion
-        (λ e. valid_by online_valid (slice_get stores.now.monoids store) e.value) all.items }
-    requires records { AllByRecursion (IsRecord
-        (meant online_valid online_add stores.now.monoids)) (map entry_record entries.old.items) }
-    ensures length { length entries.new.items ≡ length entries.old.items }
-    ensures value { OnOk result (map entry_record entries.new.items
-        ≡ with_all (add_by online_add (slice_get stores.now.monoids store)) store
-        (map by_text (map emission_of all.items)) (map entry_record entries.old.items)) }
-    ensures records { OnOk result (AllByRecursion (IsRecord
-        (meant online_valid online_add stores.now.monoids)) (map entry_record entries.new.items)) }
+        (λ x. valid_by online_valid (slice_get stores.now.monoids store) x.1) fed.items }
+    requires rising { IsTrue (is_sorted key_order parts.old.items) }
+    requires valid { AreValid (meant online_valid online_add stores.now.monoids) parts.old.items }
+    ensures value { OnOk result (parts.new.items
+        ≡ with_fed (add_by online_add (slice_get stores.now.monoids store)) store fed.items
+        parts.old.items) }
+    ensures valid { OnOk result (AreValid (meant online_valid online_add stores.now.monoids)
+        parts.new.items) }
 {
-    for e in all {
-        add_one(alloc, stores, store, e, entries)?;
+    let m = stores.monoid(store);
+    for (text, value) in fed {
+        add_part(alloc, m, parts, (KeyBytes { store, text }, value))?;
     }
     Ok(())
-}
-
-// The record is found by its place.
-fn add_one(
-    alloc: Global,
-    stores: &Stores<OnlineM>,
-    store: u32,
-    e: Emitted,
-    entries: &mut Vec<Entry<Agg>>,
-) -> Result<(), NoMemory>
-    requires store { store < length stores.now.monoids }
-    requires place { e.position < length entries.old.items }
-    requires value { valid_by online_valid (slice_get stores.now.monoids store) e.value }
-    requires records { AllByRecursion (IsRecord
-        (meant online_valid online_add stores.now.monoids)) (map entry_record entries.old.items) }
-    ensures length { length entries.new.items ≡ length entries.old.items }
-    ensures value { OnOk result (map entry_record entries.new.items
-        ≡ with_emission (add_by online_add (slice_get stores.now.monoids store)) store
-        (by_text (emission_of e)) (map entry_record entries.old.items)) }
-    ensures records { OnOk result (AllByRecursion (IsRecord
-        (meant online_valid online_add stores.now.monoids)) (map entry_record entries.new.items)) }
-{
-    let text = key_text(alloc, &e.key)?;
-    add_at(
-        alloc,
-        stores,
-        entries,
-        e.position,
-        KeyBytes { store, text },
-        e.value,
-    )
 }

@@ -3,11 +3,16 @@
 
 mod batch_runner;
 mod emitting;
+mod making;
 mod online_runner;
 mod parts;
+mod paths;
+mod plan;
+mod running;
 mod stores;
 mod texts;
 
 pub use batch_runner::Runner;
 pub use online_runner::OnlineRunner;
+pub use plan::{Plan, plan_of};
 pub use texts::{key_text, text_of};

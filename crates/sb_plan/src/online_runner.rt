@@ -1,4 +1,5 @@
 //! The stores of a program over the records of a log, as a feed.
+ghost use Rattle.sb_check.specs.Log.{HavePlaces};
 ghost use Rattle.std.specs.Prelude.{◌≡◌, ◌<◌, ◌≤◌, ◌++◌, true, length, map, slice_index_or, take, IfOk, OnOk};
 ghost use Rattle.std.specs.List.{AllByRecursion};
 ghost use Rattle.sb_check.specs.Admission.{all_commute};
@@ -11,11 +12,12 @@ ghost use Rattle.sb_kind.specs.KindView.{monoid_of};
 ghost use Rattle.sb_kind.specs.Monoids.{commutes};
 ghost use Rattle.sb_meaning.specs.Emissions.{logged_in};
 ghost use Rattle.sb_plan.specs.Entries.{entry_record};
-ghost use Rattle.sb_plan.specs.Runners.{HavePlaces, Runs, online_monoid};
+ghost use Rattle.sb_plan.specs.Runners.{Runs, online_monoid};
 ghost use Rattle.sb_service.specs.Views.{view_service};
 
-use crate::emitting::{add_stores, bare};
+use crate::emitting::entries;
 use crate::parts::Entry;
+use crate::plan::plan_of;
 use crate::stores::Stores;
 use sb_check::{Log, Online, StoreDecl};
 use sb_feed::{BatchIndex, Family, Feed, KeyBytes, Part, Printed};
@@ -55,7 +57,7 @@ impl Model for OnlineRunner {
 
 impl OnlineRunner {
     /// What the records of a log add to the stores of a program that is admitted. The log has the program's batches, and
-    /// each record the number of its line, from 0. All emissions of a store are kept while they are added.
+    /// each record the number of its line, from 0.
     pub fn new(
         alloc: Global,
         o: &Online,
@@ -69,8 +71,8 @@ impl OnlineRunner {
     {
         let c = o.checked();
         let stores = Stores::new(dictionaries(alloc, c.stores())?)?;
-        let mut entries = bare(alloc, c.batcher(), log.records())?;
-        add_stores(alloc, o, log, services, &stores, &mut entries)?;
+        let plan = plan_of(alloc, c)?;
+        let entries = entries(alloc, o, &plan, &stores, log.records(), services)?;
         let index = index_of(alloc, &entries)?;
         Ok(OnlineRunner {
             stores,

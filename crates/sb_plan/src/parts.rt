@@ -1,15 +1,10 @@
 //! Records with their parts, and what is added to these.
-ghost use Rattle.std.specs.Prelude.{◌≡◌, ◌<◌, IsTrue, OnOk, length, map, slice_get};
+ghost use Rattle.std.specs.Prelude.{◌≡◌, IsTrue, OnOk};
 ghost use Rattle.std.specs.FinMap.{find, is_sorted};
-ghost use Rattle.std.specs.List.{AllByRecursion};
 ghost use Rattle.sb_laws.specs.Sums.{IsValid};
 ghost use Rattle.sb_laws.specs.Tables.{add_to};
-ghost use Rattle.sb_feed.specs.Jobs.{IsRecord, add_by, meant, valid_by};
 ghost use Rattle.sb_feed.specs.Keys.{key_order};
-ghost use Rattle.sb_plan.specs.Entries.{entry_record};
-ghost use Rattle.sb_plan.specs.Parts.{with_part};
 
-use crate::stores::Stores;
 use sb_feed::KeyBytes;
 use sb_gather::{Ordered, place_of};
 use sb_laws::{NoMemory, Semigroup};
@@ -47,34 +42,8 @@ impl<E: Drop> Ordered for ByKey<E> {
     }
 }
 
-/// Adds a value at a key of the record at a place, on the right of what the key has there: a binary search, and a plus or
-/// one move of the parts behind. The length stays in any case.
-pub fn add_at<M: Semigroup>(
-    alloc: Global,
-    stores: &Stores<M>,
-    entries: &mut Vec<Entry<M::El>>,
-    place: u64,
-    key: KeyBytes,
-    value: M::El,
-) -> Result<(), NoMemory>
-    requires store { key.store < length stores.now.monoids }
-    requires place { place < length entries.old.items }
-    requires value { valid_by M.valid (slice_get stores.now.monoids key.store) value }
-    requires records { AllByRecursion (IsRecord (meant M.valid M.add stores.now.monoids))
-        (map entry_record entries.old.items) }
-    ensures length { length entries.new.items ≡ length entries.old.items }
-    ensures value { OnOk result (map entry_record entries.new.items
-        ≡ with_part (add_by M.add (slice_get stores.now.monoids key.store)) key value place
-        (map entry_record entries.old.items)) }
-    ensures records { OnOk result (AllByRecursion
-        (IsRecord (meant M.valid M.add stores.now.monoids)) (map entry_record entries.new.items)) }
-{
-    let m = stores.monoid(key.store);
-    let entry = &mut entries[place as usize];
-    add_part(alloc, m, &mut entry.parts, (key, value))
-}
-
-fn add_part<M: Semigroup>(
+/// Adds a value at a key, on the right of what the key has: a binary search, and a plus or one move of the parts behind.
+pub fn add_part<M: Semigroup>(
     alloc: Global,
     m: &M,
     parts: &mut Vec<(KeyBytes, M::El)>,

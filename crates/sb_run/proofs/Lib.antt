@@ -1,3 +1,4 @@
+pub mod BatchValues
 pub mod Batches
 pub mod Chunks
 pub mod Endings
@@ -10,6 +11,7 @@ pub mod Serving
 pub mod Settling
 pub mod Sharded
 pub mod StoreReport
+pub mod StoreRuns
 pub mod Stores
 pub mod TranscriptExamples
 pub mod Transcripts

@@ -18,33 +18,14 @@ use Rattle.sb_kind.specs.Elements.{plus}
 use Rattle.sb_kind.specs.declared.agg.Agg.{Agg}
 use Rattle.sb_plan.specs.Emitted.{emitted, fold_of, everywhere}
 use Rattle.sb_plan.specs.Runners.{RunnerValue, Runs, name_at, online_add, online_monoid, online_valid}
-use Rattle.sb_report.specs.Report.{fold_text, printed_row, row_text}
+use Rattle.sb_report.specs.Report.{fold_text, printed_row}
 use Rattle.sb_service.specs.Rows.{Rows}
 use Rattle.sb_session.specs.Sessions.{AreAllRows}
 use Rattle.sb_run.specs.Answering.{Serves, job_in, online, runner_row}
 use Rattle.sb_run.specs.Run.{StoreRun, name_in, report_text, run_of, store_run, store_runs, value_in}
+use Rattle.sb_run.proofs.StoreRuns.{runs_length, run_at, names_same, from_first, texts_from}
 use Rattle.sb_run.proofs.Stores.{there, monoid_is, plus_same, same_length}
-use Rattle.sb_run.proofs.Reports.{RowTexts, rows_are_reports}
-
--- ---- lists of stores
-
-module _ (c : CheckedProgram) (log : List Logged) (services : List Rows) where
-  runs_length : (n : ℕ) (stores : List Store) → length (store_runs c log services n stores) ≡ length stores
-  runs_length n [] = refl
-  runs_length n (s ∷ stores) = let others = runs_length (suc n) stores in omega (arith, others)
-
-  run_at : (n k : ℕ) (stores : List Store) (s : StoreRun Agg) → slice_get (store_runs c log services n stores) k ≡ Some s
-      → (d : Store) × (slice_get stores k ≡ Some d) × (s ≡ store_run c log services (n + k) d)
-  run_at n k [] s is = absurd (let no : None ≡ Some s = is in cc)
-  run_at n zero (d ∷ stores) s is = (d, refl, let same : Some (store_run c log services n d) ≡ Some s = is in let eq : store_run c log services n d ≡ s = cc in sym eq ∙ ap (λ m. store_run c log services m d) (omega arith))
-  run_at n (suc k) (d ∷ stores) s is =
-      let later = run_at (suc n) k stores s is in
-      (later.0, later.1, later.2 ∙ ap (λ m. store_run c log services m later.0) (omega arith))
-
-  names_same : (n k : ℕ) (stores : List Store) → name_in (store_runs c log services n stores) k ≡ unwrap_or (slice_get (map (λ s. s.name) stores) k) []
-  names_same n k [] = refl
-  names_same n zero (s ∷ stores) = refl
-  names_same n (suc k) (s ∷ stores) = names_same (suc n) k stores
+use Rattle.sb_run.proofs.Reports.{rows_are_reports}
 
 -- ---- values
 
@@ -93,23 +74,11 @@ module _ (c : CheckedProgram) (log : List Logged) (services : List Rows) (runner
   below_stores (row ∷ rows) valid =
       (let less = valid.0.0 in let many = stores_length in let all = runs_length c log services 0 c.declared.stores in omega (arith, less, many, all), below_stores rows valid.1)
 
-  from_first : (rows : List (KeyBytes × Agg)) → AllByRecursion (λ row. 0 ≤ row.0.store) rows
-  from_first [] = tt
-  from_first (row ∷ rows) = (omega arith, from_first rows)
-
-  texts_from : (names : List (List ℕ)) (n : ℕ) (stores : List Store) → ((k : ℕ) → name_at names (n + k) ≡ unwrap_or (slice_get (map (λ s. s.name) stores) k) [])
-      → RowTexts n (printed_row (name_at names) (λ store. element_text)) (store_runs c log services n stores)
-  texts_from names n [] is = tt
-  texts_from names n (s ∷ stores) is = (
-    (λ row here. ap (λ name. row_text name row.0.text (element_text row.1)) (ap (name_at names) (here ∙ omega arith) ∙ is 0)),
-    texts_from names (suc n) stores (λ k. ap (name_at names) (omega arith) ∙ is (suc k)),
-  )
-
   report_same : (rows : List (KeyBytes × Agg)) → IsTrue (is_sorted key_order rows) → AreAllRows online_valid online_add (job_in runner cut) rows
       → flat_map (runner_row runner) rows ≡ report_text (run_of c cut.chunk cut.shards log services)
   report_same rows rising all =
       rows_are_reports (printed_row (name_at runner.stores.names) (λ store. element_text)) 0 (store_runs c log services 0 c.declared.stores) rows
-      (texts_from runner.stores.names 0 c.declared.stores (λ k. ap (λ names. name_at names (0 + k)) runs.stores.names ∙ ap (λ m. name_at (map (λ s. s.name) c.declared.stores) m) (omega arith)))
+      (texts_from c log services runner.stores.names 0 c.declared.stores (λ k. ap (λ names. name_at names (0 + k)) runs.stores.names ∙ ap (λ m. name_at (map (λ s. s.name) c.declared.stores) m) (omega arith)))
       (from_first rows) (below_stores rows all.elements) rising
       (record {
         folds = λ n s is key.

@@ -1,6 +1,6 @@
 -- The sums of a batch job: what its dictionaries mean, and its rows.
-use Rattle.std.specs.Prelude.{ℕ, List, [], slice_get, Option, Some, None}
-use Rattle.sb_check.specs.Declarations.{Store}
+use Rattle.std.specs.Prelude.{ℕ, zero, suc, List, [], ◌++◌, map, length, slice_get}
+use Rattle.std.specs.List.{flat_map}
 use Rattle.sb_check.specs.Log.{Logged}
 use Rattle.sb_check.specs.Programs.{CheckedProgram}
 use Rattle.sb_feed.specs.Jobs.{Dictionaries, meant, valid_by}
@@ -9,11 +9,9 @@ use Rattle.sb_kind.specs.ElementText.{element_text}
 use Rattle.sb_kind.specs.Elements.{IsOf, plus}
 use Rattle.sb_kind.specs.declared.agg.Agg.{Agg}
 use Rattle.sb_kind.specs.declared.dictionary.KindM.{KindM}
-use Rattle.sb_meaning.specs.declared.emissions.Emitted.{Emitted}
-use Rattle.sb_plan.specs.Emitted.{Emission}
+use Rattle.sb_plan.specs.Given.{Planned, fed_at, planned}
 use Rattle.sb_plan.specs.Runners.{StoresValue, kind_monoid, name_at}
 use Rattle.sb_report.specs.Report.{printed_row}
-use Rattle.sb_run.specs.Run.{StoreRun, rows_text, store_run}
 use Rattle.sb_service.specs.Rows.{Rows}
 
 abbrev pub kind_valid : KindM → Agg → Type 0
@@ -30,18 +28,22 @@ stores runner = meant kind_valid kind_add runner.monoids
 abbrev pub batch_row : StoresValue KindM → KeyBytes × Agg → List ℕ
 batch_row runner = printed_row (name_at runner.names) (λ store. element_text)
 
--- what an emission adds to the sums by key
-abbrev pub keyed : ℕ → Emission Agg → KeyBytes × Agg
-keyed store e = (record { store = store; text = e.key }, e.value)
+-- what is fed to a store, by its key
+abbrev pub keyed : ℕ → List ℕ × Agg → KeyBytes × Agg
+keyed store x = (record { store = store; text = x.0 }, x.1)
+
+-- what a record feeds to the stores below a number, store by store
+abbrev pub values_below : Planned → List Rows → Logged → ℕ → List (KeyBytes × Agg)
+values_below p services r zero = []
+values_below p services r (suc n) = values_below p services r n ++ map (keyed n) (fed_at p services n r)
+
+abbrev pub values_of : Planned → List Rows → Logged → List (KeyBytes × Agg)
+values_of p services r = values_below p services r (length p.stores)
+
+-- what the records of a log feed to the stores of a program, record by record
+abbrev pub all_values : CheckedProgram → List Rows → List Logged → List (KeyBytes × Agg)
+all_values c services = flat_map (values_of (planned c) services)
 
 -- the element is one of the store's dictionary
-abbrev pub IsEmittedInto : StoresValue KindM → ℕ → Emitted → Type 0
-IsEmittedInto runner store e = valid_by kind_valid (slice_get runner.monoids store) e.value
-
--- the report of the store of this number
-abbrev pub text_of : Option Store → (ℕ → Store → StoreRun Agg) → ℕ → List ℕ
-text_of None run store = []
-text_of (Some s) run store = rows_text (run store s)
-
-abbrev pub store_text : CheckedProgram → List Logged → List Rows → ℕ → List ℕ
-store_text c log services store = text_of (slice_get c.declared.stores store) (store_run c log services) store
+abbrev pub IsFedTo : StoresValue KindM → ℕ → List ℕ × Agg → Type 0
+IsFedTo runner store x = valid_by kind_valid (slice_get runner.monoids store) x.1

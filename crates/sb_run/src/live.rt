@@ -1,4 +1,5 @@
 //! `run`: the answers of a live run.
+ghost use Rattle.sb_check.specs.Log.{HavePlaces};
 ghost use Rattle.std.specs.Prelude.{◌≡◌, ◌≤◌, true, Some, length, map, OnOk, IfSome};
 ghost use Rattle.std.specs.List.{AllByRecursion};
 ghost use Rattle.sb_check.specs.LogView.{view_log};
@@ -7,7 +8,7 @@ ghost use Rattle.sb_feed.specs.Limits.{most_records_of_a_chunk, most_shards};
 ghost use Rattle.sb_io.specs.Sink.{Appends, HasSinkCause};
 ghost use Rattle.sb_load.specs.Commands.{chunk_of};
 ghost use Rattle.sb_load.specs.Inputs.{chunks_fit};
-ghost use Rattle.sb_load.specs.Steps.{HavePlaces, IsAdmitted, inputs_of, loaded_of, records_of};
+ghost use Rattle.sb_load.specs.Steps.{IsAdmitted, inputs_of, loaded_of, records_of};
 ghost use Rattle.sb_report.specs.Script.{AsksOf};
 ghost use Rattle.sb_run.specs.Call.{Keeps};
 ghost use Rattle.sb_run.specs.Commands.{IsServedRun, shards_of};

@@ -1,7 +1,7 @@
 use Rattle.std.proofs.Common.{◌<◌, length, sym, subst}
 use Rattle.sb_feed.specs.Jobs.{meant}
 use Rattle.sb_plan.specs.Runners.{online_add, online_valid}
-use Rattle.sb_plan.proofs.Running.{limit_there}
+use Rattle.sb_plan.proofs.Runs.{limit_there}
 use Rattle.sb_plan.proofs.online_runner.OnlineRunner.entry.Goals as goal
 
 pub returns-clause-limit : goal.returns-clause-limit

@@ -2,7 +2,7 @@ use Rattle.std.proofs.Common.{◌≡◌, ◌∙◌, ap, sym, subst, true, map}
 use Rattle.std.specs.List.{AllByRecursion}
 use Rattle.sb_check.specs.Admission.{all_commute}
 use Rattle.sb_check.specs.Declarations.{Store}
-use Rattle.sb_check.specs.Log.{logged_of}
+use Rattle.sb_check.specs.Log.{are_in_batches, logged_of}
 use Rattle.sb_check.specs.LogView.{view_log}
 use Rattle.sb_check.specs.OnlineView.{online_of}
 use Rattle.sb_check.specs.Programs.{CheckedProgram}
@@ -10,32 +10,40 @@ use Rattle.sb_feed.specs.Jobs.{IsRecord, meant}
 use Rattle.sb_meaning.specs.Emissions.{logged_in}
 use Rattle.sb_service.specs.Views.{view_service}
 use Rattle.sb_plan.specs.Entries.{entry_record}
-use Rattle.sb_plan.specs.Parts.{bare}
-use Rattle.sb_plan.specs.Runners.{batch_by, batch_in, online_add, online_monoid, online_valid}
-use Rattle.sb_plan.proofs.Running.{few_batches, first_are_records, runs}
+use Rattle.sb_plan.specs.Given.{planned}
+use Rattle.sb_plan.specs.Parts.{IsFed, record_in}
+use Rattle.sb_plan.specs.Runners.{online_add, online_monoid, online_valid}
+use Rattle.sb_plan.proofs.Runs.{few_batches, runs}
 use Rattle.sb_plan.proofs.online_runner.OnlineRunner.new.Goals as goal
 
-pub add_stores-requires-clause-records : goal.add_stores-requires-clause-records
-add_stores-requires-clause-records c =
-    first_are_records (meant online_valid online_add c.in_ok-stores.stores.monoids) c.batcher.result.now (view_log c.args.log.now).batching (map logged_of c.records.result.now) (map entry_record c.in_ok-entries.entries.items)
-    (c.requires.batching ∙ sym (c.batcher.ensures ∙ ap (λ (p : CheckedProgram). p.batching) c.checked-c.ensures.value)) c.records.ensures.within c.in_ok-entries.ensures
+pub entries-requires-clause-plan : goal.entries-requires-clause-plan
+entries-requires-clause-plan c = c.in_ok-plan.ensures ∙ ap planned c.checked-c.ensures.value
+
+pub entries-requires-clause-stores : goal.entries-requires-clause-stores
+entries-requires-clause-stores c =
+    let decls = c.stores.ensures ∙ ap (λ (p : CheckedProgram). p.declared.stores) c.checked-c.ensures.value in
+    record {
+      names = c.in_ok-stores.ensures.names ∙ (c.in_ok-dictionaries.ensures.names ∙ ap (map (λ (s : Store). s.name)) decls);
+      monoids = ap (map online_monoid) c.in_ok-stores.ensures.monoids ∙ (c.in_ok-dictionaries.ensures.monoids ∙ ap (map (λ (s : Store). s.monoid)) decls);
+    }
+
+pub entries-requires-clause-within : goal.entries-requires-clause-within
+entries-requires-clause-within c = subst (λ b. are_in_batches b (map logged_of c.records.result.now) ≡ true) c.requires.batching c.records.ensures.within
 
 pub returns : goal.returns
 returns c =
     let is = c.checked-c.ensures.value in
     let decls = c.stores.ensures ∙ ap (λ (p : CheckedProgram). p.declared.stores) is in
-    runs (online_of c.args.o.now) (logged_in c.args.log.now) (map view_service c.args.services.now) c.in_ok-stores.stores (map entry_record c.in_ok-entries.entries.items) (map entry_record c.add_stores.new.entries.items)
+    runs (online_of c.args.o.now) (logged_in c.args.log.now) (map view_service c.args.services.now) c.in_ok-stores.stores (map entry_record c.in_ok-entries.entries.items)
     (record {
       names = c.in_ok-stores.ensures.names ∙ (c.in_ok-dictionaries.ensures.names ∙ ap (map (λ (s : Store). s.name)) decls);
       monoids = ap (map online_monoid) c.in_ok-stores.ensures.monoids ∙ (c.in_ok-dictionaries.ensures.monoids ∙ ap (map (λ (s : Store). s.monoid)) decls);
     })
-    (c.in_ok-entries.ensures
-    ∙ (ap (λ b. bare (map (batch_by b) (map logged_of c.records.result.now))) (c.batcher.ensures ∙ ap (λ (p : CheckedProgram). p.batching) is)
-    ∙ ap (λ rs. bare (map (batch_in (online_of c.args.o.now)) (map logged_of rs))) c.records.ensures.value))
-    c.in_ok-add_stores.ensures.value c.requires.placed (subst (λ (p : CheckedProgram). all_commute p.declared.stores ≡ true) is c.checked-c.ensures.any_order) c.in_ok-add_stores.ensures.valid
+    (c.in_ok-entries.ensures.value ∙ ap (λ rs. map (record_in (online_of c.args.o.now) (map view_service c.args.services.now)) (map logged_of rs)) c.records.ensures.value)
+    c.requires.placed (subst (λ (p : CheckedProgram). all_commute p.declared.stores ≡ true) is c.checked-c.ensures.any_order)
+    (subst (λ rs. AllByRecursion (IsFed (online_of c.args.o.now) (map view_service c.args.services.now)) (map logged_of rs)) c.records.ensures.value c.in_ok-entries.ensures.fed)
 
--- the records are valid once all is added
 pub index_of-requires : goal.index_of-requires
 index_of-requires c =
     let d = meant online_valid online_add c.in_ok-stores.stores.monoids in
-    few_batches d (map entry_record c.deref.result.now) (subst (λ entries. AllByRecursion (IsRecord d) (map entry_record entries)) (sym c.deref.ensures.value) c.in_ok-add_stores.ensures.records)
+    few_batches d (map entry_record c.deref.result.now) (subst (λ entries. AllByRecursion (IsRecord d) (map entry_record entries)) (sym c.deref.ensures.value) c.in_ok-entries.ensures.records)

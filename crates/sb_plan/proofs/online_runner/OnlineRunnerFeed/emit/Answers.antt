@@ -1,6 +1,6 @@
 use Rattle.std.proofs.Common.{◌∙◌, ◌++◌, ap}
 use Rattle.sb_plan.specs.Entries.{entry_record}
-use Rattle.sb_plan.proofs.Running.{parts_there}
+use Rattle.sb_plan.proofs.Runs.{parts_there}
 use Rattle.sb_plan.proofs.online_runner.OnlineRunnerFeed.emit.Goals as goal
 
 pub returns-in-Ok-clause-ok : goal.returns-in-Ok-clause-ok

@@ -1,0 +1,20 @@
+use Rattle.std.proofs.Common.{◌≡◌, ◌≤◌, ◌++◌, [], List, length, map}
+use Rattle.sb_check.specs.CheckedView.{checked_of}
+use Rattle.sb_check.specs.Log.{logged_of}
+use Rattle.sb_feed.specs.declared.key.KeyBytes.{KeyBytes}
+use Rattle.sb_feed.specs.Jobs.{AreValid}
+use Rattle.sb_job.specs.Sums.{HasKeySums}
+use Rattle.sb_kind.specs.declared.agg.Agg.{Agg}
+use Rattle.sb_plan.specs.Given.{planned}
+use Rattle.sb_service.specs.Views.{view_service}
+use Rattle.sb_run.specs.Batching.{stores, values_below}
+use Rattle.sb_run.proofs.batch.add_record.Given as goal
+
+abbrev pub invariant-loop-store : goal.invariant-loop-store
+invariant-loop-store l = record {
+  none : l.fed.items ≡ [];
+  within : l.store ≤ length l.runner.monoids;
+  valid : AreValid (stores l.runner) l.sums;
+  sums : (values : List (KeyBytes × Agg)) → HasKeySums (stores l.runner) values l.fn.sums
+      → HasKeySums (stores l.runner) (values ++ values_below (planned (checked_of l.c)) (map view_service l.services) (logged_of l.logged) l.store) l.sums;
+}
