@@ -8,7 +8,7 @@ ghost use Rattle.sb_types.specs.ValView.{value_of};
 
 use crate::it::It;
 use crate::operations::{one, one_of, two, two_of};
-use crate::parts::{part_of, field_at, truth_in};
+use crate::parts::{field_at, part_of, truth_in};
 use sb_terms::{Double, Single, Term};
 use sb_text::NoMemory;
 use sb_types::{Val, copy};

@@ -87,9 +87,9 @@ source_by_record : (n : ℕ) (log : List Logged) → records n log ≡ by_record
 source_by_record n [] = refl
 source_by_record n (r ∷ log) = elim (r.source == n) as (λ b. map (λ (x : Logged). (x.position, fields_of_record x)) (cond b (r ∷ filter (λ x. x.source == n) log) (filter (λ x. x.source == n) log))
     ≡ placed r.position (cond b (fields_of_record r ∷ []) []) ++ by_record (of_source n) log) [
-  | true ↦ ap (λ l. (r.position, fields_of_record r) ∷ l) (source_by_record n log)
-  | false ↦ source_by_record n log
-]
+      | true ↦ ap (λ l. (r.position, fields_of_record r) ∷ l) (source_by_record n log)
+      | false ↦ source_by_record n log
+    ]
 
 -- ---- merges
 

@@ -169,8 +169,7 @@ module _ (F : Logged → List (List ℕ × Agg)) (key : List ℕ) where
   from_place add q records k [] has h = tt
   from_place add q records k (r ∷ log) has h =
       let at : (r.position == k + 0) ≡ true = (let same = h.0 in grind (arith, nat_tests)) in
-      let less : k + 0 < suc k = omega arith in
-      (
+      let less : k + 0 < suc k = omega arith in (
         has r
             ∙ (ap (sum_of add) (sym (values_placed r.position (G r)))
             ∙ ap (λ xs. sum_of add (map (λ (x : ℕ × Agg). x.1) xs))

@@ -104,8 +104,10 @@ fn make_of_parts(
     key: Option<&Val>,
     value: Option<&Val>,
 ) -> Result<(Text, Agg), NoMemory>
-    ensures made { IfOk result (λ m. m ≡ (value_text (part_value key.entry),
-        prepared (monoid_of kind.now) (val_of (part_value value.entry)))) }
+    ensures made { IfOk result (λ m. m ≡ (
+      value_text (part_value key.entry),
+      prepared (monoid_of kind.now) (val_of (part_value value.entry)),
+    )) }
     ensures good { IfOk result (λ m. IsOf (monoid_of kind.now) m.1) }
 {
     let text = text_of_part(alloc, key)?;
@@ -131,8 +133,10 @@ fn make_of_both(
     term: &Term,
     it: It<'_>,
 ) -> Result<(Text, Agg), NoMemory>
-    ensures made { IfOk result (λ m. m ≡ (value_text (ev key.now (it_value it.entry)),
-        prepared (monoid_of kind.now) (val_of (ev term.now (it_value it.entry))))) }
+    ensures made { IfOk result (λ m. m ≡ (
+      value_text (ev key.now (it_value it.entry)),
+      prepared (monoid_of kind.now) (val_of (ev term.now (it_value it.entry))),
+    )) }
     ensures good { IfOk result (λ m. IsOf (monoid_of kind.now) m.1) }
 {
     let text = text_by(alloc, key, it)?;

@@ -54,11 +54,7 @@ pub fn paths<'a>(alloc: Global, flow: &'a Flow) -> Result<Vec<Path<'a>>, NoMemor
     }
 }
 
-fn mapped<'a>(
-    alloc: Global,
-    before: Vec<Path<'a>>,
-    by: &'a Term,
-) -> Result<Vec<Path<'a>>, NoMemory>
+fn mapped<'a>(alloc: Global, before: Vec<Path<'a>>, by: &'a Term) -> Result<Vec<Path<'a>>, NoMemory>
     ensures { IfOk result (λ paths. gives paths.items
         ≡ λ r services lets. map (ev by.now) (gives before.entry.items r services lets)) }
 {
@@ -87,11 +83,7 @@ fn flat_mapped<'a>(
     staged(alloc, before, Stage::FlatMap(by))
 }
 
-fn joined<'a>(
-    alloc: Global,
-    before: Vec<Path<'a>>,
-    number: u64,
-) -> Result<Vec<Path<'a>>, NoMemory>
+fn joined<'a>(alloc: Global, before: Vec<Path<'a>>, number: u64) -> Result<Vec<Path<'a>>, NoMemory>
     ensures { IfOk result (λ paths. gives paths.items ≡ λ r services lets.
         map (join_with (list_at number services)) (gives before.entry.items r services lets)) }
 {

@@ -148,6 +148,14 @@ impl<'a> Plan<'a> {
             out.new.items) }
     {
         let plan = &self.stores[store as usize];
-        run_paths(alloc, &plan.paths, logged, services, lets, &plan.feeder, out)
+        run_paths(
+            alloc,
+            &plan.paths,
+            logged,
+            services,
+            lets,
+            &plan.feeder,
+            out,
+        )
     }
 }

@@ -124,7 +124,9 @@ fn add_records(
     let mut sums = KeySums::new(alloc);
     let mut fed = Vec::new(alloc);
     for logged in records {
-        add_record(alloc, c, runner, plan, logged, services, &mut fed, &mut sums)?;
+        add_record(
+            alloc, c, runner, plan, logged, services, &mut fed, &mut sums,
+        )?;
     }
     Ok(sums)
 }
@@ -153,7 +155,9 @@ fn add_record(
 {
     let lets = plan.let_values(alloc, logged, services)?;
     for store in 0..runner.stores() {
-        add_store(alloc, c, runner, plan, logged, services, &lets, store, fed, sums)?;
+        add_store(
+            alloc, c, runner, plan, logged, services, &lets, store, fed, sums,
+        )?;
     }
     Ok(())
 }
