@@ -29,7 +29,7 @@ use Rattle.sb_run.proofs.Reports.{rows_are_reports}
 use Rattle.sb_run.proofs.StoreRuns.{runs_length, run_at, from_first, texts_from}
 use Rattle.sb_run.proofs.Stores.{there, monoid_is, plus_same, valid_same, same_length}
 
-module _ (c : CheckedProgram) (log : List Logged) (services : List Rows) (runner : StoresValue KindM) (are : AreStores c kind_monoid runner) where
+module _ (c : CheckedProgram) (runner : StoresValue KindM) (are : AreStores c kind_monoid runner) where
   many : length runner.monoids ≡ length c.declared.stores
   many = same_length kind_monoid (λ s. s.monoid) runner.monoids c.declared.stores are.monoids
 
@@ -42,10 +42,11 @@ module _ (c : CheckedProgram) (log : List Logged) (services : List Rows) (runner
       let d = there c.declared.stores store (omega (arith, less, many)) in
       subst (λ (V : Agg → Type 0). AllByRecursion (λ x. V x.1) fed) (sym (valid_same kind_monoid runner.monoids c.declared.stores store d.0 are.monoids d.1 ∙ sym (ap IsOf (monoid_is c store d.0 d.1)))) h
 
+module _ (c : CheckedProgram) (log : List Logged) (services : List Rows) (runner : StoresValue KindM) (are : AreStores c kind_monoid runner) where
   below_stores : (rows : List (KeyBytes × Agg)) → AreValid (stores runner) rows → AllByRecursion (λ row. row.0.store < 0 + length (store_runs c log services 0 c.declared.stores)) rows
   below_stores [] valid = tt
   below_stores (row ∷ rows) valid =
-      (let less = valid.0.0 in let all = runs_length c log services 0 c.declared.stores in omega (arith, less, many, all), below_stores rows valid.1)
+      (let less = valid.0.0 in let count = many c runner are in let all = runs_length c log services 0 c.declared.stores in omega (arith, less, count, all), below_stores rows valid.1)
 
   pub batch_report : (rows : List (KeyBytes × Agg)) → HavePlaces 0 log → IsTrue (is_sorted key_order rows) → AreKeySums (stores runner) (all_values c services log) rows → flat_map (batch_row runner) rows ≡ report_text (run_of c 1 1 log services)
   batch_report rows places rising sums =

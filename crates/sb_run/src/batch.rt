@@ -82,8 +82,26 @@ fn put_stores<K: Sink>(
         Ok(runner) => runner,
         Err(_) => return Err(SinkError::NoMemory),
     };
-    match sum_log(alloc, c, &runner, log.records(), services) {
-        Ok(rows) => put_report(alloc, sink, &runner, rows.as_slice()),
+    put_sums(alloc, sink, c, &runner, log, services)
+}
+
+fn put_sums<K: Sink>(
+    alloc: Global,
+    sink: &mut K,
+    c: &Checked,
+    runner: &Runner,
+    log: &Log,
+    services: &[Service],
+) -> Result<(), SinkError>
+    requires placed { HavePlaces 0 (records_of log.now) }
+    requires stores { AreStores (checked_of c.now) kind_monoid runner.now }
+    ensures ok { OnOk result (Appends (report_text (run_of (checked_of c.now) 1 1
+        (records_of log.now) (map view_service services.now))) (K.written sink.old)
+        (K.written sink.new)) }
+    ensures cause { HasSinkCause (K.faults sink.old) (K.faults sink.new) result }
+{
+    match sum_log(alloc, c, runner, log.records(), services) {
+        Ok(rows) => put_report(alloc, sink, runner, rows.as_slice()),
         Err(_) => Err(SinkError::NoMemory),
     }
 }

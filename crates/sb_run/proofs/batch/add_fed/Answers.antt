@@ -21,7 +21,7 @@ loop-one-preserved c =
       later = (subst (AllByRecursion (IsFedTo c.args.runner.now c.args.store)) c.in-Some.ensures.steps.0 c.loop-one.invariant.later).1;
       split = append_assoc before (one ∷ []) (drain_items c.next.new.self) ∙ (ap (λ l. before ++ l) (sym c.in-Some.ensures.steps.0) ∙ c.loop-one.invariant.split);
       sums = λ values has.
-          subst (λ l. HasKeySums (stores c.args.runner.now) l c.add.new.sums)
+          subst (λ l. HasKeySums (stores c.args.runner.now) l c.add.new.self)
           (append_assoc values (map key before) (key one ∷ []) ∙ ap (λ l. values ++ l) (sym (map-last key before one)))
           (c.in_ok-add.ensures.sums (values ++ map key before) (c.loop-one.invariant.sums values has));
     }

@@ -16,7 +16,7 @@ loop-store-preserved c =
     let store = c.loop-store.store in
     record {
       none = c.in_ok-add_store.ensures.none;
-      within = omega (arith, c.loop-store-test.true, c.stores.ensures);
+      within = omega (arith, c.loop-store-test.true, c.stores-store-end.ensures);
       valid = c.in_ok-add_store.ensures.valid;
       sums = λ values has.
           subst (λ l. HasKeySums (stores c.args.runner.now) l c.add_store.new.sums)
@@ -30,5 +30,5 @@ returns-clause-sums c =
     let services = map view_service c.args.services.now in
     let r = logged_of c.args.logged.now in
     let count = many_planned (checked_of c.args.c.now) c.args.runner.now c.requires.stores in
-    let all : c.loop-store.store ≡ length p.stores = omega (arith, c.loop-store-test.false, c.loop-store.invariant.within, c.stores.ensures, count) in
+    let all : c.loop-store.store ≡ length p.stores = omega (arith, c.loop-store-test.false, c.loop-store.invariant.within, c.stores-store-end.ensures, count) in
     λ values has. subst (λ n. HasKeySums (stores c.args.runner.now) (values ++ values_below p services r n) c.loop-store.sums) all (c.loop-store.invariant.sums values has)
