@@ -1,4 +1,4 @@
-//! The plan of a program: what its streams do with a logged, one record at a time.
+//! The plan of a program: what its streams do with a record, one record at a time.
 ghost use Rattle.std.specs.Prelude.{◌≡◌, ◌<◌, ◌++◌, [], map, length, slice_get, IfOk, IfSome, OnOk};
 ghost use Rattle.std.specs.List.{AllByRecursion};
 ghost use Rattle.sb_check.specs.CheckedView.{checked_of};
@@ -31,7 +31,7 @@ pub struct StorePlan<'a> {
     pub feeder: Feeder<'a>,
 }
 
-/// What the streams of a program do with a logged, after producers as in Summingbird (PVLDB 7(13), 2014). Chains of stages
+/// What the streams of a program do with a record, after producers as in Summingbird (PVLDB 7(13), 2014). Chains of stages
 /// are run value by value, and what a let gives of a record is computed once, however many streams use it.
 #[derive(Drop)]
 pub struct Plan<'a> {
