@@ -1,9 +1,7 @@
-//! Public calls that no command reaches, and those of the lower crates, each used with ample memory. These are tests alone: a crate that has its own is
-//! proved twice.
+//! Public calls that no command reaches, and dictionaries through their bounds, each used with ample memory. These are
+//! tests alone: a crate that has its own is proved twice.
 #![tactic(auto)]
 
-#[cfg(test)]
-mod batches;
 #[cfg(test)]
 mod bounds;
 #[cfg(test)]
@@ -13,17 +11,11 @@ mod expecting;
 #[cfg(test)]
 mod greater;
 #[cfg(test)]
-mod jobs;
-#[cfg(test)]
-mod kinds;
-#[cfg(test)]
 mod outside;
 #[cfg(test)]
-mod programs;
+mod reading;
 #[cfg(test)]
 mod reports;
-#[cfg(test)]
-mod services;
 #[cfg(test)]
 mod sets;
 #[cfg(test)]
@@ -36,7 +28,3 @@ mod texts;
 mod tokens;
 #[cfg(test)]
 mod tops;
-#[cfg(test)]
-mod values;
-#[cfg(test)]
-mod words;

@@ -8,7 +8,7 @@ use crate::bounds::{is_of_zero, single, taken_back, three};
 use crate::expecting::{equal, holds};
 use crate::greater::Greater;
 use sb_gather::{Both, Entries, Keys, MapM, PairM, SetM};
-use sb_laws::{Items, Monoid, NoMemory, Semigroup};
+use sb_laws::{Items, NoMemory};
 use std::alloc::Global;
 use std::test::Fail;
 
@@ -62,31 +62,6 @@ fn a_map_of_pairs_of_sets(rt: HostRuntime) -> Result<(), Fail> {
         }
         None => holds(&rt, false),
     }
-    Ok(())
-}
-
-fn set_of_all(alloc: Global, keys: &[i64]) -> Result<Keys<i64>, NoMemory>
-    ensures { IfOk result (λ set. AreEntries int_cmp AnyKey set) }
-{
-    let m = SetM::<i64>::new();
-    let mut set = m.zero(alloc)?;
-    for key in keys {
-        m.plus(alloc, &mut set, set_of(alloc, *key)?)?;
-    }
-    Ok(set)
-}
-
-#[test]
-fn many_keys_are_merged(rt: HostRuntime) -> Result<(), Fail> {
-    let alloc = rt.alloc();
-    let mut set = set_of_all(alloc, &[6, 3, 15, 12])?;
-    let more = set_of_all(alloc, &[9, 1, 3, 12, 5, 7, 8, 2, 0, 20])?;
-    SetM::<i64>::new().plus(alloc, &mut set, more)?;
-    equal(
-        &rt,
-        set.as_slice(),
-        [0, 1, 2, 3, 5, 6, 7, 8, 9, 12, 15, 20].as_slice(),
-    );
     Ok(())
 }
 
