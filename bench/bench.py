@@ -1,14 +1,16 @@
 #!/usr/bin/env python3
-"""The built program beside stock tools on the same logs: seconds, records a second, peak memory and ratios.
+"""The built program beside stock tools on the same logs: seconds, processor seconds, records a second, peak memory and
+ratios.
 
-    python3 bench/bench.py [--records N] [--only CASE]... [--best N] [--program PATH] [--beside NAME=PATH]...
+    python3 bench/bench.py [--records N] [--only CASE]... [--best N] [--processors N] [--program PATH]
+                           [--beside NAME=PATH]...
 
 Build the program first (`rt run` in crates/summingbird). The stock tools are Debian's packages mawk, datamash and
 sqlite3 (`apt-get install mawk datamash sqlite3`); a tool that isn't there is left out. `--beside` adds a program that
 takes the same command line. The logs are made with a fixed seed in a temporary folder, so they have the same bytes in
 each run. What a program or a tool prints is compared with what this script computes by itself; where they differ, or a
 program refuses a case, the table says so, and the status is 1. The ratio is to the seconds of the first program. Peak
-memory is that of the largest process of a run, from about 9 MiB on.
+memory is that of the largest process of a run, from about 9 MiB on. `--processors` lets each run have so many.
 
 A tool stands in a case where its own language can give the same rows. None of them makes the registers of a HyperLogLog
 or the cells of a count-min sketch: there the tools count exactly instead, and only the number of their rows is compared.
@@ -229,32 +231,34 @@ CASES = [
 # A process begins with the peak of the one that started it, so a small one starts each run. It has about 9 MiB.
 LAUNCHER = """
 import os, sys, time
-stdin, output, *words = sys.argv[1:]
+processors, stdin, output, *words = sys.argv[1:]
+os.sched_setaffinity(0, sorted(os.sched_getaffinity(0))[:int(processors)])
 files = [(os.POSIX_SPAWN_OPEN, 0, stdin, os.O_RDONLY, 0),
          (os.POSIX_SPAWN_OPEN, 1, output, os.O_WRONLY | os.O_CREAT | os.O_TRUNC, 0o600)]
 started = time.perf_counter()
 child = os.posix_spawnp(words[0], words, os.environ, file_actions=files)
 _, status, usage = os.wait4(child, 0)
-print(os.waitstatus_to_exitcode(status), time.perf_counter() - started, usage.ru_maxrss)
+seconds = time.perf_counter() - started
+print(os.waitstatus_to_exitcode(status), seconds, usage.ru_utime + usage.ru_stime, usage.ru_maxrss)
 """
 
 
-def run(words, stdin, output):
-    """The status, the seconds and the peak memory in KiB of one run."""
-    launcher = [sys.executable, "-I", "-S", "-c", LAUNCHER, stdin, str(output), *words]
+def run(words, stdin, output, processors):
+    """The status, the seconds, the processor seconds and the peak memory in KiB of one run."""
+    launcher = [sys.executable, "-I", "-S", "-c", LAUNCHER, str(processors), stdin, str(output), *words]
     told = subprocess.run(launcher, stdout=subprocess.PIPE, check=True).stdout.split()
-    return int(told[0]), float(told[1]), int(told[2])
+    return int(told[0]), float(told[1]), float(told[2]), int(told[3])
 
 
-def measure(words, stdin, output, best):
-    """Seconds and memory of the fastest run, or None and why."""
+def measure(words, stdin, output, options):
+    """Seconds, processor seconds and memory of the fastest run, or None and why."""
     runs = []
-    for _ in range(best):
-        status, seconds, memory = run(words, stdin, output)
+    for _ in range(options.best):
+        status, *figures = run(words, stdin, output, options.processors)
         if status != 0:
             line = output.read_bytes()[:60].decode("ascii", "replace").split("\n")[0]
             return None, f"status {status}: {line}"
-        runs.append((seconds, memory))
+        runs.append(figures)
     return min(runs), ""
 
 
@@ -303,9 +307,9 @@ def print_row(case, name, records, result, ours, note):
     if result is None:
         print(f"{case.name:12} {name:12} {note}", flush=True)
         return
-    seconds, memory = result
+    seconds, used, memory = result
     ratio = f"{seconds / ours:8.2f}" if ours else f"{'-':>8}"
-    figures = f"{seconds:8.2f} {records / seconds:10.0f} {memory / 1024:9.0f} {ratio}"
+    figures = f"{seconds:8.2f} {used:8.2f} {records / seconds:10.0f} {memory / 1024:9.0f} {ratio}"
     print(f"{case.name:12} {name:12} {figures} {note}".rstrip(), flush=True)
 
 
@@ -316,7 +320,7 @@ def run_case(case, programs, log, folder, options):
     output, all_agree, ours = folder / "output", True, None
     for name, program in programs.items():
         words = words_of(case, program, log, folder, options.records)
-        result, note = measure(words, os.devnull, output, options.best)
+        result, note = measure(words, os.devnull, output, options)
         if result and report_of(case, output) != wanted:
             note = "differs"
         all_agree &= note == ""
@@ -324,7 +328,7 @@ def run_case(case, programs, log, folder, options):
             ours = result[0]
         print_row(case, name, options.records, result, ours, note)
     for name, (words, stdin) in tools_of(case, log, folder).items():
-        result, note = measure(words, stdin, output, options.best)
+        result, note = measure(words, stdin, output, options)
         if result and not has_rows(case, output, rows):
             note, all_agree = "differs", False
         elif result and not case.exact:
@@ -339,6 +343,7 @@ def options_of():
     parser.add_argument("--only", action="append", choices=[case.name for case in CASES], metavar="CASE",
                         help="this case alone, or these: " + ", ".join(case.name for case in CASES))
     parser.add_argument("--best", type=int, default=3, help="runs of each, of which the fastest counts")
+    parser.add_argument("--processors", type=int, default=len(os.sched_getaffinity(0)), help="how many each run may use")
     parser.add_argument("--program", type=Path, default=PROGRAM)
     parser.add_argument("--beside", action="append", default=[], metavar="NAME=PATH")
     return parser.parse_args()
@@ -352,8 +357,8 @@ def main():
         if not os.access(program, os.X_OK):
             sys.exit(f"{name}: {program} isn't there: run `rt run` in crates/summingbird first, or name it by --program")
     cases = [case for case in CASES if not options.only or case.name in options.only]
-    print(f"{options.records} records, seed {SEED}, {os.cpu_count()} processors, best of {options.best}")
-    print("case         program       seconds  records/s  peak MiB    ratio")
+    print(f"{options.records} records, seed {SEED}, {options.processors} processors, best of {options.best}")
+    print("case         program       seconds      cpu  records/s  peak MiB    ratio")
     all_agree, made = True, None
     with tempfile.TemporaryDirectory() as name:
         folder = Path(name)

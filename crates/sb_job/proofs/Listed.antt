@@ -248,7 +248,7 @@ module _ {E : Type 0} (key : KeyBytes) where
         | false ↦ λ _. distinct_value rows h.1
       ] refl
 
-one_sum : {E : Type 0} (add : E → E → E) (o : Option E) → o ≡ sum_of add (one_or_none o)
+pub one_sum : {E : Type 0} (add : E → E → E) (o : Option E) → o ≡ sum_of add (one_or_none o)
 one_sum add None = refl
 one_sum add (Some v) = refl
 

@@ -167,7 +167,8 @@ impl<E> KeySums<E> {
         Ok(())
     }
 
-    /// Adds the sums of another table. After a refusal some of them are added.
+    /// Adds the sums of another table, each on the right of its key's: those of values that come behind. After a refusal
+    /// some of them are added.
     pub fn add_sums<F: Family>(
         &mut self,
         alloc: Global,
@@ -186,6 +187,13 @@ impl<E> KeySums<E> {
             → HasKeySums (meant F.M.valid F.M.add (F.monoids family.now)) (values ++ more)
             self.new) }
         ensures apart { OnOk result (IsDistinct same_key (keys_of more)) }
+        ensures behind { OnOk result ((values later : List (Key × E))
+            → AreValid (meant F.M.valid F.M.add (F.monoids family.now)) values
+            → AreValid (meant F.M.valid F.M.add (F.monoids family.now)) later
+            → HasKeySums (meant F.M.valid F.M.add (F.monoids family.now)) values self.old
+            → HasKeySums (meant F.M.valid F.M.add (F.monoids family.now)) later more
+            → HasKeySums (meant F.M.valid F.M.add (F.monoids family.now)) (values ++ later)
+            self.new) }
     {
         let values = entries_of(alloc, more.sums)?;
         self.add_values(alloc, family, values)

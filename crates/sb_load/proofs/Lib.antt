@@ -1,4 +1,5 @@
 pub mod Advancing
+pub mod BatchSteps
 pub mod Causes
 pub mod Loading
 pub mod Others

@@ -66,19 +66,25 @@ never (shelf file) refusal a loaded tells = tt
 never memory refusal a loaded tells = tt
 never (input step) refusal a loaded tells = let no : Ok a ≡ Err refusal = tells in cc
 
+-- what holds of all that is read of a file's bytes holds of what is loaded of it
+pub file_read : {A : Type 0} (file : Which) (most : ℕ) (longer : Refusal) (Reads : List ℕ → Result A Refusal → Type 0) (P : Result A Refusal → Type 0) (content : Content) (bytes : List ℕ)
+    → ((loaded : Result (List ℕ) Refusal) → LoadsFile file most longer AreBytes content loaded → loaded ≡ Ok bytes)
+    → ((loaded : Result A Refusal) → Reads bytes loaded → P loaded) → (loaded : Result A Refusal) → LoadsFile file most longer Reads content loaded → P loaded
+file_read file most longer Reads P Untold bytes fetched reads = λ loaded loads. absurd loads
+file_read file most longer Reads P Missing bytes fetched reads = λ loaded loads. let no : Err (refused.Shelf file) ≡ Ok bytes = fetched (Err (refused.Shelf file)) refl in cc
+file_read file most longer Reads P (Holds held) bytes fetched reads = λ loaded loads. elim loads [
+  | inl long ↦ let no : Err longer ≡ Ok bytes = fetched (Err longer) (inl (long.0, refl)) in cc
+  | inr read ↦ let same : Ok held ≡ Ok bytes = fetched (Ok held) (inr (read.0, refl)) in
+      let is : held ≡ bytes = cc in
+      reads loaded (subst (λ b. Reads b loaded) is read.1)
+]
+
 module _ {A X : Type 0} (file : Which) (most : ℕ) (longer : Refusal) (Reads : List ℕ → Result A Refusal → Type 0) (view : X → A) where
   -- what is read of a file's bytes is what is loaded of it
   pub read_tells : (content : Content) (bytes : List ℕ) (result : Result X Refusal)
       → ((loaded : Result (List ℕ) Refusal) → LoadsFile file most longer AreBytes content loaded → loaded ≡ Ok bytes)
       → TellsAll (Reads bytes) view result → TellsAll (LoadsFile file most longer Reads content) view result
-  read_tells Untold bytes result fetched reads = λ loaded loads. absurd loads
-  read_tells Missing bytes result fetched reads = λ loaded loads. let no : Err (refused.Shelf file) ≡ Ok bytes = fetched (Err (refused.Shelf file)) refl in cc
-  read_tells (Holds held) bytes result fetched reads = λ loaded loads. elim loads [
-    | inl long ↦ let no : Err longer ≡ Ok bytes = fetched (Err longer) (inl (long.0, refl)) in cc
-    | inr read ↦ let same : Ok held ≡ Ok bytes = fetched (Ok held) (inr (read.0, refl)) in
-        let is : held ≡ bytes = cc in
-        reads loaded (subst (λ b. Reads b loaded) is read.1)
-  ]
+  read_tells content bytes result = file_read file most longer Reads (λ loaded. Tells view loaded result) content bytes
 
   -- a file that isn't fetched is refused
   pub refused_tells : (content : Content) (refusal : Refusal)

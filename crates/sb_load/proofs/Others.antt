@@ -30,7 +30,7 @@ some_records (Audit p l t u s chunk shards) within = let least = within.1.0 in o
 some_records (Demo s r w) within = tt
 
 module _ (content : List ℕ → Content) (command : Command) (c : CheckedProgram) where
-  abbrev Joined : Result (List Rows) Refusal → Type 0
+  abbrev pub Joined : Result (List Rows) Refusal → Type 0
   Joined = LoadsServices content (has_services command) (files_of command) c.declared
 
   abbrev Recorded : Result (List Logged) Refusal → Type 0
@@ -42,10 +42,10 @@ module _ (content : List ℕ → Content) (command : Command) (c : CheckedProgra
   abbrev all_of : List Rows → List Logged → List Ask → Inputs
   all_of rows records asks = record { program = c; services = rows; records = records; asks = asks }
 
-  abbrev BehindLog : List Rows → List Logged → Result Inputs Refusal → Type 0
+  abbrev pub BehindLog : List Rows → List Logged → Result Inputs Refusal → Type 0
   BehindLog rows records = Then Asked (λ asks loaded. loaded ≡ Ok (all_of rows records asks))
 
-  abbrev BehindServices : List Rows → Result Inputs Refusal → Type 0
+  abbrev pub BehindServices : List Rows → Result Inputs Refusal → Type 0
   BehindServices rows = Then Recorded (BehindLog rows)
 
   -- services that are refused

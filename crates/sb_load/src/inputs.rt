@@ -74,8 +74,8 @@ fn load_named<H: Shelf>(alloc: Global, shelf: &mut H, names: &Names<'_>) -> Resu
     }
 }
 
-// The program, admitted where the log is divided.
-fn load_program<H: Shelf>(
+/// The program, admitted where the log is divided.
+pub fn load_program<H: Shelf>(
     alloc: Global,
     shelf: &mut H,
     names: &Names<'_>,
@@ -136,8 +136,8 @@ fn load_others<H: Shelf>(
     }
 }
 
-// The services, where there is a log.
-fn load_services<H: Shelf>(
+/// The services, where there is a log.
+pub fn load_services<H: Shelf>(
     alloc: Global,
     shelf: &mut H,
     names: &Names<'_>,

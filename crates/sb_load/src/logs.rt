@@ -7,8 +7,10 @@ ghost use Rattle.sb_check.specs.LogView.{view_log};
 ghost use Rattle.sb_feed.specs.Limits.{most_chunks};
 ghost use Rattle.sb_io.specs.Shelf.{Fetches};
 ghost use Rattle.sb_load.specs.Commands.{chunks, log};
-ghost use Rattle.sb_load.specs.Inputs.{FitsChunks, LoadsLog, ReadsLog, chunks_fit};
-ghost use Rattle.sb_load.specs.Steps.{IsCausedAt, IsRefusedAt, TellsAll, records_of};
+ghost use Rattle.sb_load.specs.Inputs.{FitsChunks, LoadsFile, LoadsLog, ReadsLog, chunks_fit};
+ghost use Rattle.sb_load.specs.Limits.{most_log_bytes};
+ghost use Rattle.sb_load.specs.Steps.{AreBytes, IsCausedAt, IsRefusedAt, TellsAll, records_of};
+ghost use Rattle.sb_load.specs.declared.refusal.Refusal.TheVariants as refused;
 ghost use Rattle.sb_load.specs.declared.refusal.Which.TheVariants as which;
 
 use crate::files::fetch;
@@ -48,10 +50,22 @@ pub fn fetch_log<H: Shelf>(
     ensures cause { IfErr result (IsCausedAt which.Log name.now (H.faults shelf.old)
         (H.faults shelf.new)) }
 {
-    match fetch(alloc, shelf, name, Which::Log, LIMIT, Refusal::LogLonger) {
+    match fetch_text(alloc, shelf, name) {
         Ok(bytes) => read_records(alloc, program, &bytes),
         Err(refusal) => Err(refusal),
     }
+}
+
+/// The text of a log's file.
+pub fn fetch_text<H: Shelf>(alloc: Global, shelf: &mut H, name: &Text) -> Result<Vec<u8>, Refusal>
+    ensures read { TellsAll (LoadsFile which.Log most_log_bytes refused.LogLonger AreBytes
+        (H.content shelf.old name.now)) (λ bytes. bytes.items) result }
+    ensures frame { Fetches name.now (H.content shelf.old) (H.content shelf.new)
+        (H.faults shelf.old) (H.faults shelf.new) }
+    ensures cause { IfErr result (IsCausedAt which.Log name.now (H.faults shelf.old)
+        (H.faults shelf.new)) }
+{
+    fetch(alloc, shelf, name, Which::Log, LIMIT, Refusal::LogLonger)
 }
 
 fn read_records(alloc: Global, program: &Checked, bytes: &[u8]) -> Result<Log, Refusal>

@@ -95,7 +95,7 @@ impl Refusal {
     }
 
     /// The refusal of a log that isn't read.
-    pub(crate) fn of_log(error: LogError) -> Refusal
+    pub fn of_log(error: LogError) -> Refusal
         ensures { result ≡ log_error_refusal error }
     {
         match error {

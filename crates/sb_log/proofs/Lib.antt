@@ -1,1 +1,3 @@
 pub mod FieldColumns
+pub mod Left
+pub mod PieceLines

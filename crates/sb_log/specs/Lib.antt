@@ -1,1 +1,3 @@
+pub mod PieceLines
+pub mod Reader
 pub mod Reading

@@ -1,5 +1,5 @@
 -- What a reader of a log answers.
-use Rattle.std.specs.Prelude.{◌≡◌, ℕ, Bool, true, ◌||◌, nat_lt, List, ◌++◌, length, map, Result, Ok, Err, if◌then◌else◌}
+use Rattle.std.specs.Prelude.{◌≡◌, ℕ, true, List, ◌++◌, map, Option, Some, None, Result, Ok, Err}
 use Rattle.std.specs.Borrow.{Bor}
 use Rattle.std.specs.declared.alloc.Global.{Global}
 use Rattle.std.specs.declared.vec.Vec.{Vec}
@@ -7,7 +7,9 @@ use Rattle.sb_batcher.specs.Batches.{Batching, batch_of}
 use Rattle.sb_types.specs.Value.{Value}
 use Rattle.sb_types.specs.declared.values.LogRecord.{LogRecord}
 use Rattle.sb_check.specs.Declarations.{Source, source_of}
-use Rattle.sb_check.specs.Log.{LogFault, Logged, bad_line, is_batch, logged_of, most_records, too_many}
+use Rattle.sb_text.specs.Lines.{Line}
+use Rattle.sb_check.specs.Programs.{CheckedProgram}
+use Rattle.sb_check.specs.Log.{LogFault, Logged, bad_line, is_batch, logged_of, record_of, too_many}
 use Rattle.sb_check.specs.declared.declarations.SourceDecl.{SourceDecl}
 use Rattle.sb_check.specs.declared.log.LineKind.{LineKind}
 use Rattle.sb_check.specs.declared.log.LogError.{LogError}
@@ -28,6 +30,13 @@ ReadsLog view said (Err (log_error.Line number kind)) = said ≡ Err (bad_line n
 ReadsLog view said (Err log_error.TooMany) = said ≡ Err too_many
 ReadsLog view said (Err log_error.NoMemory) = Unit {0}
 
+-- what is made of a log stands for its records, or it is told what is wrong with it; want of memory is free
+abbrev pub GivesLog : {X : Type 0} → (List Logged → X → Type 0) → Result (List Logged) LogFault → Result X LogError → Type 0
+GivesLog Stands said (Ok x) = (records : List Logged) × (said ≡ Ok records) × Stands records x
+GivesLog Stands said (Err (log_error.Line number kind)) = said ≡ Err (bad_line number kind)
+GivesLog Stands said (Err log_error.TooMany) = said ≡ Err too_many
+GivesLog Stands said (Err log_error.NoMemory) = Unit {0}
+
 -- values in front of what is read behind them
 abbrev pub behind : List Value → Result (List Value) LineKind → Result (List Value) LineKind
 behind values (Err kind) = Err kind
@@ -44,8 +53,34 @@ found_view found = (found.0, source_of found.1.now)
 abbrev pub records_view : Vec LogRecord Global → List Logged
 records_view records = map logged_of records.items
 
--- the records of a log, where these were kept and those are still to come; past the limit good lines are read and not kept
-abbrev pub kept_before : List Logged → Bool → Result (List Logged) LogFault → Result (List Logged) LogFault
-kept_before kept more (Err fault) = Err fault
-kept_before kept more (Ok others) =
-    if more || nat_lt most_records (length (kept ++ others)) then Err too_many else Ok (kept ++ others)
+-- records in front of those that are still to come
+abbrev pub records_behind : List Logged → Result (List Logged) LogFault → Result (List Logged) LogFault
+records_behind kept (Err fault) = Err fault
+records_behind kept (Ok others) = Ok (kept ++ others)
+
+-- ---- logs in pieces
+
+-- what is read of a piece, and then of the rest: the first fault decides
+abbrev pub onto_log : Result (List Logged) LogFault → Result (List Logged) LogFault → Result (List Logged) LogFault
+onto_log (Err fault) rest = Err fault
+onto_log (Ok records) rest = records_behind records rest
+
+-- ---- lines of a log
+
+-- the record that a line says, or what is wrong with it
+abbrev pub SaysLine : CheckedProgram → Line → Result LogRecord LogError → Type 0
+SaysLine c line (Ok logged) = record_of c line ≡ Ok (logged_of logged)
+SaysLine c line (Err (log_error.Line number kind)) = (number ≡ line.number) × (record_of c line ≡ Err kind)
+SaysLine c line (Err log_error.TooMany) = ⊥
+SaysLine c line (Err log_error.NoMemory) = Unit {0}
+
+abbrev pub fault_in : {X : Type 0} → Result X LogFault → Option LogFault
+fault_in (Ok x) = None
+fault_in (Err fault) = Some fault
+
+-- the lines are good, or have this first bad one
+abbrev pub AreGood : Result (List Logged) LogFault → Result (Unit {0}) LogError → Type 0
+AreGood said (Ok done) = fault_in said ≡ None
+AreGood said (Err (log_error.Line number kind)) = fault_in said ≡ Some (bad_line number kind)
+AreGood said (Err log_error.TooMany) = ⊥
+AreGood said (Err log_error.NoMemory) = Unit {0}

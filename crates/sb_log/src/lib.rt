@@ -4,6 +4,10 @@
 mod fields;
 mod line_error;
 mod log;
+mod pieces;
+mod reader;
 mod record;
 
 pub use log::read_log;
+pub use pieces::{Piece, Pieces, pieces_of};
+pub use reader::Records;

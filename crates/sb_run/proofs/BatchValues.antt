@@ -8,8 +8,7 @@ use Rattle.std.proofs.lemmas.List.Elements.{filter-append}
 use Rattle.sb_laws.specs.Sums.{sum_of}
 use Rattle.sb_laws.specs.Tables.{values_at}
 use Rattle.sb_laws.proofs.Positions.{ap_both}
-use Rattle.sb_types.specs.declared.values.LogRecord.{LogRecord}
-use Rattle.sb_check.specs.Log.{HavePlaces, Logged, logged_of}
+use Rattle.sb_check.specs.Log.{HavePlaces, Logged}
 use Rattle.sb_check.specs.Programs.{CheckedProgram}
 use Rattle.sb_feed.specs.Keys.{key_order, same_key}
 use Rattle.sb_feed.specs.declared.key.KeyBytes.{KeyBytes}
@@ -17,7 +16,7 @@ use Rattle.sb_kind.specs.declared.agg.Agg.{Agg}
 use Rattle.sb_plan.specs.Emitted.{emitted, fold_of, everywhere}
 use Rattle.sb_plan.specs.Given.{Planned, fed_at, planned}
 use Rattle.sb_plan.specs.Parts.{key_at}
-use Rattle.sb_plan.proofs.ByRecord.{placed, by_record, emission_at, emitted_by_record}
+use Rattle.sb_plan.proofs.ByRecord.{placed, by_record, emitted_by_record}
 use Rattle.sb_plan.proofs.Found.{fed_with, key_by_record}
 use Rattle.sb_plan.proofs.Keys.{ties_by_text, apart}
 use Rattle.sb_service.specs.Rows.{Rows}
@@ -105,8 +104,8 @@ values_are_folds c log services add store key there places =
     ∙ ap (λ es. fold_of add es key everywhere) (sym (emitted_by_record c log services store places)))
 
 -- the values of a record more
-pub values_next : (c : CheckedProgram) (services : List Rows) (records : List LogRecord) (logged : LogRecord)
-    → all_values c services (map logged_of records) ++ values_of (planned c) services (logged_of logged) ≡ all_values c services (map logged_of (records ++ logged ∷ []))
-values_next c services records logged =
+pub values_next : (c : CheckedProgram) (services : List Rows) (records : List Logged) (r : Logged)
+    → all_values c services records ++ values_of (planned c) services r ≡ all_values c services (records ++ r ∷ [])
+values_next c services records r =
     let f = values_of (planned c) services in
-    sym (ap (flat_map f) (map-append logged_of records (logged ∷ [])) ∙ (flat_map-append f (map logged_of records) (logged_of logged ∷ []) ∙ ap (λ l. flat_map f (map logged_of records) ++ l) (append-nil (f (logged_of logged)))))
+    sym (flat_map-append f records (r ∷ []) ∙ ap (λ l. flat_map f records ++ l) (append-nil (f r)))

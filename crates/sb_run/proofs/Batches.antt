@@ -1,11 +1,9 @@
 -- The rows of a batch's sums are its report.
-use Rattle.std.proofs.Common.{◌≡◌, ℕ, ◌+◌, ◌<◌, List, [], ◌∷◌, map, length, refl, sym, ap, subst, ◌∙◌, arith, IsTrue}
-use Rattle.std.specs.Prelude.{slice_get}
+use Rattle.std.proofs.Common.{◌≡◌, ℕ, ◌+◌, ◌<◌, List, [], ◌∷◌, map, length, sym, ap, subst, ◌∙◌, arith, IsTrue}
 use Rattle.std.proofs.lemmas.List.{length-map}
 use Rattle.std.proofs.lemmas.Option.{slice_get_within}
 use Rattle.std.specs.FinMap.{is_sorted}
 use Rattle.std.specs.List.{AllByRecursion, flat_map}
-use Rattle.sb_check.specs.Declarations.{Store}
 use Rattle.sb_check.specs.Log.{HavePlaces, Logged}
 use Rattle.sb_check.specs.Programs.{CheckedProgram}
 use Rattle.sb_feed.specs.Jobs.{AreValid}

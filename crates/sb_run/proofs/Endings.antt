@@ -1,5 +1,5 @@
 -- How a command ends, from what its steps answered.
-use Rattle.std.proofs.Common.{◌≡◌, ◌⊎◌, ◌≤◌, ℕ, Bool, true, false, List, Option, Some, None, Ok, Err, subst, sym, refl, ap, ◌∙◌, arith}
+use Rattle.std.proofs.Common.{◌≡◌, ◌⊎◌, ◌≤◌, ℕ, Bool, true, false, List, [], Option, Some, None, Ok, Err, subst, sym, refl, ap, ◌∙◌, arith}
 use Rattle.std.specs.Prelude.{Result, OnOk}
 use mathlib.Core.Logic.{inl, inr}
 use Rattle.sb_io.specs.Faults.{Rose}
@@ -9,7 +9,14 @@ use Rattle.sb_io.specs.declared.sink.SinkError.{SinkError}
 use Rattle.sb_io.specs.declared.sink.SinkError.TheVariants as failed
 use Rattle.sb_load.specs.Causes.{IsCausedBy, Leaves}
 use Rattle.sb_load.specs.Commands.{Step, program, order, services, log, chunks, script, program_name}
-use Rattle.sb_load.specs.Inputs.{Inputs, Loads}
+use Rattle.sb_load.specs.Batches.{inputs_with}
+use Rattle.sb_load.specs.Inputs.{Inputs, Loads, log_refusal}
+use Rattle.sb_load.proofs.Loading.{told}
+use Rattle.sb_check.specs.Log.{LogFault, Logged, bad_line, too_many}
+use Rattle.sb_check.specs.Programs.{CheckedProgram}
+use Rattle.sb_service.specs.Rows.{Rows}
+use Rattle.sb_run.specs.BatchAnswer.{batch_answer}
+use Rattle.sb_run.specs.Run.{report_text, run_of}
 use Rattle.sb_load.specs.Refusals.{Answer, Cause, shelf, memory, input, cause_of, status_of, refusal_answer}
 use Rattle.sb_load.specs.Steps.{TellsBy, TellsRefusal}
 use Rattle.sb_load.specs.declared.refusal.Refusal.{Refusal}
@@ -50,6 +57,29 @@ step_isnt_three log is = omega (arith, is)
 step_isnt_three chunks is = omega (arith, is)
 step_isnt_three script is = omega (arith, is)
 
+-- ---- batches
+
+abbrev batch_inputs : CheckedProgram → List Rows → List Logged → Inputs
+batch_inputs c rows records = record { program = c; services = rows; records = records; asks = [] }
+
+-- a batch makes its report
+batch_due : (command : Command) → IsBatch command → (inputs : Inputs) (due : Due) → IsMade command inputs due
+    → due ≡ done (report_text (run_of inputs.program 1 1 inputs.records inputs.services))
+batch_due (Check p) own inputs due is = absurd own
+batch_due (Batch p l files) own inputs due is = is
+batch_due (Run p l s files settings) own inputs due is = absurd own
+batch_due (Audit p l s judged files chunk shards) own inputs due is = absurd own
+batch_due (Demo seed records workers) own inputs due is = absurd own
+
+-- and reads a log
+log_caused : (command : Command) → IsBatch command → (before now : List ℕ → ℕ) (fault : LogFault) → IsCausedBy command before now (cause_of (log_refusal fault))
+log_caused (Check p) own before now fault = absurd own
+log_caused (Batch p l files) own before now (bad_line number kind) = refl
+log_caused (Batch p l files) own before now too_many = refl
+log_caused (Run p l s files settings) own before now fault = absurd own
+log_caused (Audit p l s judged files chunk shards) own before now fault = absurd own
+log_caused (Demo seed records workers) own before now fault = absurd own
+
 -- what a put that ends well left is what it was given
 abbrev pub DoneBy : Due → Option (List ℕ) → Option (List ℕ) → Type 0
 DoneBy due before now = (bytes : List ℕ) × (due ≡ done bytes) × Appends bytes before now
@@ -85,9 +115,9 @@ module _ (content_before content_now : List ℕ → Content) (faults_before faul
   words_status None answer is = ap (λ a. a.status) is
   words_status (Some command) answer is = ap (λ a. a.status) is.1
 
-  not_three : (answer : Answer) → answer.status ≡ 2 → PutEnds answer before now status → status ≡ 3 → ⊥
-  not_three answer two ends three = elim ends [
-    | inl put ↦ omega (arith, two, three, put.0)
+  not_three : (answer : Answer) → (answer.status ≡ 3 → ⊥) → PutEnds answer before now status → status ≡ 3 → ⊥
+  not_three answer other_status ends three = elim ends [
+    | inl put ↦ other_status (sym put.0 ∙ three)
     | inr other ↦ elim other [ inl four ↦ omega (arith, three, four) | inr five ↦ omega (arith, three, five) ]
   ]
 
@@ -96,7 +126,7 @@ module _ (content_before content_now : List ℕ → Content) (faults_before faul
       → Keeps command content_before content_now faults_before faults_now before now sink_before sink_now status
   words_keep command answer is only leaves ends sink later = record {
     exact = λ due is_due. subst (λ d. Ends d before now status) (sym (only due is_due)) (put_exactly answer ends);
-    shelf = λ three. absurd (not_three answer (words_status command answer is) ends three);
+    shelf = λ three. absurd (not_three answer (λ told. let two = words_status command answer is in omega (arith, two, told)) ends three);
     sink = sink;
     refusals = refuses command answer (inl is) ends;
     frame = leaves;
@@ -164,6 +194,28 @@ module _ (content_before content_now : List ℕ → Content) (faults_before faul
       shelf = names_fault refusal caused ends;
       sink = sink;
       refusals = refuses (Some command) (refusal_answer refusal) (inr (refusal, caused, refl)) ends;
+      frame = served_leaves leaves;
+      later = later;
+    }
+
+    -- a batch that put its report, or the line of what is wrong with its log
+    pub batch_keeps : IsBatch command → (c : CheckedProgram) (rows : List Rows) (said : Result (List Logged) LogFault)
+        → ((loaded : Result Inputs Refusal) → Loads content_before command (program_name command) loaded → loaded ≡ inputs_with c rows said)
+        → Leaves command content_before content_now faults_before faults_now → PutEnds (batch_answer c rows said) before now status
+        → (status ≡ 4 → Rose sink_before sink_now) → sink_before ≤ sink_now
+        → Keeps (Some command) content_before content_now faults_before faults_now before now sink_before sink_now status
+    batch_keeps own c rows (Err fault) loads leaves ends sink later =
+        refused_keeps (log_refusal fault) (λ loaded loaded_is. told (log_refusal fault) loaded (loads loaded loaded_is)) (log_caused command own faults_before faults_now fault) leaves ends sink later
+    batch_keeps own c rows (Ok records) loads leaves ends sink later = record {
+      exact = due_given (λ due. Ends due before now status) (λ loaded loaded_is due gives.
+          let only = batch_due command own (batch_inputs c rows records) due (subst (λ l. Gives command l due) (loads loaded loaded_is) gives) in
+          subst (λ d. Ends d before now status) (sym only) (put_exactly (batch_answer c rows (Ok records)) ends));
+      shelf = λ three. absurd (not_three (batch_answer c rows (Ok records)) (λ no. omega (arith, no)) ends three);
+      sink = sink;
+      refusals = elim ends [
+        | inl put ↦ inl put.0
+        | inr other ↦ elim other [ inl four ↦ inr (inl four) | inr five ↦ inr (inr (inl five)) ]
+      ];
       frame = served_leaves leaves;
       later = later;
     }

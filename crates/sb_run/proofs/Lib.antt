@@ -1,3 +1,4 @@
+pub mod BatchEndings
 pub mod BatchValues
 pub mod Batches
 pub mod Chunks
@@ -13,5 +14,6 @@ pub mod Sharded
 pub mod StoreReport
 pub mod StoreRuns
 pub mod Stores
+pub mod Summed
 pub mod TranscriptExamples
 pub mod Transcripts

@@ -1,5 +1,5 @@
 -- A runner over a program's log serves the run of that program.
-use Rattle.std.proofs.Common.{◌≡◌, ℕ, zero, suc, ◌+◌, ◌<◌, ◌≤◌, Bool, true, List, [], ◌∷◌, map, length, Option, Some, None, refl, sym, ap, ◌∙◌, arith, IsTrue}
+use Rattle.std.proofs.Common.{◌≡◌, ℕ, zero, suc, ◌+◌, ◌<◌, Bool, true, List, [], ◌∷◌, map, length, Option, Some, None, refl, sym, ap, ◌∙◌, arith, IsTrue}
 use Rattle.std.specs.Prelude.{slice_get, unwrap_or}
 use Rattle.std.specs.Option.{option_map_or}
 use Rattle.std.proofs.lemmas.Option.{slice_get_within}
@@ -22,7 +22,7 @@ use Rattle.sb_report.specs.Report.{fold_text, printed_row}
 use Rattle.sb_service.specs.Rows.{Rows}
 use Rattle.sb_session.specs.Sessions.{AreAllRows}
 use Rattle.sb_run.specs.Answering.{Serves, job_in, online, runner_row}
-use Rattle.sb_run.specs.Run.{StoreRun, name_in, report_text, run_of, store_run, store_runs, value_in}
+use Rattle.sb_run.specs.Run.{StoreRun, report_text, run_of, store_run, store_runs, value_in}
 use Rattle.sb_run.proofs.StoreRuns.{runs_length, run_at, names_same, from_first, texts_from}
 use Rattle.sb_run.proofs.Stores.{there, monoid_is, plus_same, same_length}
 use Rattle.sb_run.proofs.Reports.{rows_are_reports}

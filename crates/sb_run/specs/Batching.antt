@@ -3,8 +3,9 @@ use Rattle.std.specs.Prelude.{ℕ, zero, suc, List, [], ◌++◌, map, length, s
 use Rattle.std.specs.List.{flat_map}
 use Rattle.sb_check.specs.Log.{Logged}
 use Rattle.sb_check.specs.Programs.{CheckedProgram}
-use Rattle.sb_feed.specs.Jobs.{Dictionaries, meant, valid_by}
+use Rattle.sb_feed.specs.Jobs.{AreValid, Dictionaries, meant, valid_by}
 use Rattle.sb_feed.specs.declared.key.KeyBytes.{KeyBytes}
+use Rattle.sb_job.specs.Sums.{HasKeySums}
 use Rattle.sb_kind.specs.ElementText.{element_text}
 use Rattle.sb_kind.specs.Elements.{IsOf, plus}
 use Rattle.sb_kind.specs.declared.agg.Agg.{Agg}
@@ -47,3 +48,9 @@ all_values c services = flat_map (values_of (planned c) services)
 -- the element is one of the store's dictionary
 abbrev pub IsFedTo : StoresValue KindM → ℕ → List ℕ × Agg → Type 0
 IsFedTo runner store x = valid_by kind_valid (slice_get runner.monoids store) x.1
+
+-- the sums of what the records of a log feed to the stores, all of it valid
+pub record AreSummed (c : CheckedProgram) (services : List Rows) (runner : StoresValue KindM) (records : List Logged) (table : List (KeyBytes × Agg)) : Type 0 where
+  pub valid : AreValid (stores runner) table
+  pub fed : AreValid (stores runner) (all_values c services records)
+  pub sums : HasKeySums (stores runner) (all_values c services records) table

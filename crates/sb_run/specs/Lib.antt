@@ -1,4 +1,5 @@
 pub mod Answering
+pub mod BatchAnswer
 pub mod Batching
 pub mod Blocks
 pub mod Call

@@ -1,33 +1,38 @@
 //! `batch`: the sums of a program's stores over a closed log.
-ghost use Rattle.std.specs.Prelude.{◌≡◌, ◌<◌, ◌++◌, [], List, map, length, Some, IfOk, OnOk};
+ghost use Rattle.std.specs.Prelude.{◌≡◌, ◌<◌, ◌≤◌, ◌++◌, [], List, map, length, Some, IfOk, IfErr, OnOk, IsPermutation};
+ghost use Rattle.std.specs.FinMap.{find};
 ghost use Rattle.std.specs.List.{AllByRecursion};
 ghost use Rattle.sb_check.specs.CheckedView.{checked_of};
-ghost use Rattle.sb_check.specs.Log.{HavePlaces, logged_of};
+ghost use Rattle.sb_check.specs.Log.{log_of, logged_of};
+ghost use Rattle.sb_check.specs.declared.log.LogError.TheVariants.{NoMemory};
 ghost use Rattle.sb_feed.specs.Jobs.{AreValid};
+ghost use Rattle.sb_feed.specs.Keys.{key_order};
 ghost use Rattle.sb_feed.specs.declared.key.KeyBytes.{KeyBytes as Key};
-ghost use Rattle.sb_io.specs.Sink.{Appends, HasSinkCause};
+ghost use Rattle.sb_io.specs.Faults.{Rose};
 ghost use Rattle.sb_job.specs.Sums.{AreKeySums, HasKeySums};
 ghost use Rattle.sb_kind.specs.declared.agg.Agg.{Agg as Element};
-ghost use Rattle.sb_load.specs.Steps.{records_of};
+ghost use Rattle.sb_log.specs.Reader.{left_of, program_of};
+ghost use Rattle.sb_log.specs.Reading.{GivesLog};
 ghost use Rattle.sb_plan.specs.Given.{fed_at, let_values, planned};
 ghost use Rattle.sb_plan.specs.Plans.{plan_value};
 ghost use Rattle.sb_plan.specs.Runners.{AreStores, kind_monoid};
-ghost use Rattle.sb_run.specs.Batching.{IsFedTo, all_values, keyed, stores, values_of};
+ghost use Rattle.sb_run.specs.BatchAnswer.{answer_of, batch_answer};
+ghost use Rattle.sb_run.specs.Batching.{AreSummed, IsFedTo, all_values, keyed, stores, values_of};
 ghost use Rattle.sb_run.specs.Call.{Keeps};
 ghost use Rattle.sb_run.specs.Commands.{IsBatch};
-ghost use Rattle.sb_run.specs.Run.{report_text, run_of};
+ghost use Rattle.sb_run.specs.Endings.{PutEnds};
 ghost use Rattle.sb_service.specs.Views.{view_service};
 ghost use Rattle.sb_types.specs.ValView.{value_of};
-ghost use Rattle.sb_words.specs.Limits.{IsWithin};
 
 use crate::ending::{put_refusal, status_of};
 use crate::report::put_report;
-use sb_check::{Checked, Log};
+use sb_check::{Checked, LogError};
 use sb_feed::{Family, KeyBytes, RowList};
-use sb_io::{Shelf, Sink, SinkError};
+use sb_io::{Shelf, Sink};
 use sb_job::KeySums;
 use sb_kind::Agg;
-use sb_load::load;
+use sb_load::{BatchInputs, Refusal, load_batch};
+use sb_log::Records;
 use sb_plan::{Plan, Runner, plan_of};
 use sb_service::Service;
 use sb_text::{NoMemory, Text};
@@ -36,7 +41,8 @@ use sb_words::Command;
 use std::alloc::Global;
 
 /// Does what the words of this `batch` command say: it writes the report, for each store of the program each key with an
-/// emission, in rising order of its text's bytes, with its sum over the whole log. The status is that of the top call.
+/// emission, in rising order of its text's bytes, with its sum over the whole log. The log is folded while it is read, and
+/// nothing is written before its last line was good. The status is that of the top call.
 pub fn batch_command<H: Shelf, K: Sink>(
     alloc: Global,
     command: &Command,
@@ -44,45 +50,27 @@ pub fn batch_command<H: Shelf, K: Sink>(
     sink: &mut K,
 ) -> u8
     requires own { IsBatch command.now }
-    requires within { IsWithin command.now }
     ensures { Keeps (Some command.now) (H.content shelf.old) (H.content shelf.new)
         (H.faults shelf.old) (H.faults shelf.new) (K.written sink.old) (K.written sink.new)
         (K.faults sink.old) (K.faults sink.new) result }
 {
-    match load(alloc, command, shelf) {
-        Ok(inputs) => {
-            let put = put_stores(
-                alloc,
-                sink,
-                inputs.program.checked(),
-                &inputs.log,
-                &inputs.services,
-            );
-            status_of(sink, put)
-        }
+    match load_batch(alloc, command, shelf) {
+        Ok(inputs) => put_answer(alloc, sink, &inputs),
         Err(refusal) => put_refusal(sink, &refusal),
     }
 }
 
-// Puts the report of all stores.
-fn put_stores<K: Sink>(
-    alloc: Global,
-    sink: &mut K,
-    c: &Checked,
-    log: &Log,
-    services: &[Service],
-) -> Result<(), SinkError>
-    requires placed { HavePlaces 0 (records_of log.now) }
-    ensures ok { OnOk result (Appends (report_text (run_of (checked_of c.now) 1 1
-        (records_of log.now) (map view_service services.now))) (K.written sink.old)
-        (K.written sink.new)) }
-    ensures cause { HasSinkCause (K.faults sink.old) (K.faults sink.new) result }
+// Puts the report, or the line of a log that isn't read.
+fn put_answer<K: Sink>(alloc: Global, sink: &mut K, inputs: &BatchInputs) -> u8
+    ensures ends { PutEnds (answer_of inputs.now) (K.written sink.old) (K.written sink.new) result }
+    ensures later { K.faults sink.old ≤ K.faults sink.new }
+    ensures sink { result ≡ 4 → Rose (K.faults sink.old) (K.faults sink.new) }
 {
-    let runner = match Runner::new(alloc, c) {
-        Ok(runner) => runner,
-        Err(_) => return Err(SinkError::NoMemory),
-    };
-    put_sums(alloc, sink, c, &runner, log, services)
+    let c = inputs.program.checked();
+    match Runner::new(alloc, c) {
+        Ok(runner) => put_sums(alloc, sink, c, &runner, &inputs.services, &inputs.log),
+        Err(_) => put_refusal(sink, &Refusal::NoMemory),
+    }
 }
 
 fn put_sums<K: Sink>(
@@ -90,61 +78,81 @@ fn put_sums<K: Sink>(
     sink: &mut K,
     c: &Checked,
     runner: &Runner,
-    log: &Log,
     services: &[Service],
-) -> Result<(), SinkError>
-    requires placed { HavePlaces 0 (records_of log.now) }
+    log: &[u8],
+) -> u8
     requires stores { AreStores (checked_of c.now) kind_monoid runner.now }
-    ensures ok { OnOk result (Appends (report_text (run_of (checked_of c.now) 1 1
-        (records_of log.now) (map view_service services.now))) (K.written sink.old)
-        (K.written sink.new)) }
-    ensures cause { HasSinkCause (K.faults sink.old) (K.faults sink.new) result }
+    ensures ends { PutEnds (batch_answer (checked_of c.now) (map view_service services.now)
+        (log_of (checked_of c.now) log.now)) (K.written sink.old) (K.written sink.new) result }
+    ensures later { K.faults sink.old ≤ K.faults sink.new }
+    ensures sink { result ≡ 4 → Rose (K.faults sink.old) (K.faults sink.new) }
 {
-    match sum_log(alloc, c, runner, log.records(), services) {
-        Ok(rows) => put_report(alloc, sink, runner, rows.as_slice()),
-        Err(_) => Err(SinkError::NoMemory),
+    match sum_log(alloc, c, runner, services, log) {
+        Ok(rows) => {
+            let put = put_report(alloc, sink, runner, rows.as_slice());
+            status_of(sink, put)
+        }
+        Err(error) => put_refusal(sink, &Refusal::of_log(error)),
     }
 }
 
-// The sum of each key of each store over the whole log.
+// The sum of each key of each store over the log of a text.
 fn sum_log(
     alloc: Global,
     c: &Checked,
     runner: &Runner,
-    records: &[LogRecord],
     services: &[Service],
-) -> Result<RowList<Agg>, NoMemory>
+    log: &[u8],
+) -> Result<RowList<Agg>, LogError>
     requires stores { AreStores (checked_of c.now) kind_monoid runner.now }
-    ensures { IfOk result (AreKeySums (stores runner.now) (all_values (checked_of c.now)
-        (map view_service services.now) (map logged_of records.now))) }
+    ensures { GivesLog (λ records. AreKeySums (stores runner.now) (all_values (checked_of c.now)
+        (map view_service services.now) records)) (log_of (checked_of c.now) log.now) result }
 {
-    let plan = plan_of(alloc, c)?;
-    let sums = add_records(alloc, c, runner, &plan, records, services)?;
-    let rows = sums.into_rows(alloc)?;
-    Ok(rows)
+    match plan_of(alloc, c) {
+        Ok(plan) => {
+            let sums = add_records(alloc, c, runner, &plan, services, Records::new(c, log))?;
+            rows_of(alloc, sums)
+        }
+        Err(_) => Err(LogError::NoMemory),
+    }
 }
 
-// Each value is added on the right of its key's sum, record by record.
+// The sums as rows.
+fn rows_of(alloc: Global, sums: KeySums<Agg>) -> Result<RowList<Agg>, LogError>
+    ensures ok { IfOk result (λ rows. IsPermutation sums rows × ((q : Key)
+        → find key_order q rows ≡ find key_order q sums)) }
+    ensures err { IfErr result (λ e. e ≡ NoMemory) }
+{
+    match sums.into_rows(alloc) {
+        Ok(rows) => Ok(rows),
+        Err(_) => Err(LogError::NoMemory),
+    }
+}
+
+// Each value is added on the right of its key's sum, record by record, as they are read.
 fn add_records(
     alloc: Global,
     c: &Checked,
     runner: &Runner,
     plan: &Plan<'_>,
-    records: &[LogRecord],
     services: &[Service],
-) -> Result<KeySums<Agg>, NoMemory>
+    mut records: Records<'_>,
+) -> Result<KeySums<Agg>, LogError>
     requires stores { AreStores (checked_of c.now) kind_monoid runner.now }
     requires plan { plan_value plan.now ≡ planned (checked_of c.now) }
-    ensures valid { IfOk result (AreValid (stores runner.now)) }
-    ensures sums { IfOk result (HasKeySums (stores runner.now) (all_values (checked_of c.now)
-        (map view_service services.now) (map logged_of records.now))) }
+    requires program { program_of records ≡ checked_of c.now }
+    ensures { GivesLog (AreSummed (checked_of c.now) (map view_service services.now) runner.now)
+        (left_of records.entry) result }
 {
     let mut sums = KeySums::new(alloc);
     let mut fed = Vec::new(alloc);
-    for logged in records {
-        add_record(
-            alloc, c, runner, plan, logged, services, &mut fed, &mut sums,
-        )?;
+    while let Some(logged) = records.next_record(alloc)? {
+        let added = add_record(
+            alloc, c, runner, plan, &logged, services, &mut fed, &mut sums,
+        );
+        let Ok(()) = added else {
+            return Err(LogError::NoMemory);
+        };
     }
     Ok(sums)
 }
@@ -166,6 +174,8 @@ fn add_record(
     requires valid { AreValid (stores runner.now) sums.old }
     ensures none { OnOk result (fed.new.items ≡ []) }
     ensures valid { OnOk result (AreValid (stores runner.now) sums.new) }
+    ensures fed { OnOk result (AreValid (stores runner.now) (values_of (planned (checked_of c.now))
+        (map view_service services.now) (logged_of logged.now))) }
     ensures sums { OnOk result ((values : List (Key × Element))
         → HasKeySums (stores runner.now) values sums.old
         → HasKeySums (stores runner.now) (values ++ values_of (planned (checked_of c.now))
@@ -202,6 +212,9 @@ fn add_store(
     requires valid { AreValid (stores runner.now) sums.old }
     ensures none { OnOk result (fed.new.items ≡ []) }
     ensures valid { OnOk result (AreValid (stores runner.now) sums.new) }
+    ensures fed { OnOk result (AreValid (stores runner.now) (map (keyed store)
+        (fed_at (planned (checked_of c.now)) (map view_service services.now) store
+        (logged_of logged.now)))) }
     ensures sums { OnOk result ((values : List (Key × Element))
         → HasKeySums (stores runner.now) values sums.old
         → HasKeySums (stores runner.now) (values ++ map (keyed store)

@@ -1,12 +1,16 @@
-use Rattle.std.proofs.Common.{◌≡◌, ◌≤◌, length, true}
+use Rattle.std.proofs.Common.{◌≡◌, true}
 use Rattle.sb_check.specs.CheckedView.{checked_of}
-use Rattle.sb_check.specs.Log.{are_in_batches, log_of, most_records, records_of}
-use Rattle.sb_log.specs.Reading.{kept_before, records_view}
+use Rattle.sb_check.specs.Log.{are_in_batches, log_of}
+use Rattle.sb_log.specs.Reader.{left_of, lines_left, program_of}
+use Rattle.sb_log.specs.Reading.{records_behind, records_view}
 use Rattle.sb_log.proofs.log.read_records.Given as goal
 
-abbrev pub invariant-loop-line : goal.invariant-loop-line
-invariant-loop-line l = record {
-  read : kept_before (records_view l.records) l.too_many (records_of (checked_of l.c) l.line-iterator) ≡ log_of (checked_of l.c) l.bytes;
-  few : length l.records.items ≤ most_records;
+abbrev pub invariant-loop-records : goal.invariant-loop-records
+invariant-loop-records l = record {
+  program : program_of l.reader ≡ checked_of l.c;
+  read : records_behind (records_view l.records) (left_of l.reader) ≡ log_of (checked_of l.c) l.bytes;
   batches : are_in_batches (checked_of l.c).batching (records_view l.records) ≡ true;
 }
+
+abbrev pub decreases-loop-records : goal.decreases-loop-records
+decreases-loop-records l = lines_left l.reader

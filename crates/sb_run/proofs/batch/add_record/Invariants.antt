@@ -15,6 +15,7 @@ invariant-loop-store l = record {
   none : l.fed.items ≡ [];
   within : l.store ≤ length l.runner.monoids;
   valid : AreValid (stores l.runner) l.sums;
+  fed : AreValid (stores l.runner) (values_below (planned (checked_of l.c)) (map view_service l.services) (logged_of l.logged) l.store);
   sums : (values : List (KeyBytes × Agg)) → HasKeySums (stores l.runner) values l.fn.sums
       → HasKeySums (stores l.runner) (values ++ values_below (planned (checked_of l.c)) (map view_service l.services) (logged_of l.logged) l.store) l.sums;
 }

@@ -1,31 +1,34 @@
-use Rattle.std.proofs.Common.{◌≡◌, ◌+◌, ◌++◌, ◌∷◌, [], ◌∙◌, ap, sym, subst, map, take, arith}
-use Rattle.std.proofs.lemmas.List.{take_all, take_more}
+use Rattle.std.proofs.Common.{◌++◌, ◌∷◌, [], ◌∙◌, Ok, ap, map, subst, sym}
 use Rattle.sb_check.specs.CheckedView.{checked_of}
 use Rattle.sb_check.specs.Log.{logged_of}
-use Rattle.sb_job.specs.Sums.{HasKeySums}
+use Rattle.sb_log.specs.Reader.{GivesNext, left_of}
+use Rattle.sb_log.specs.Reading.{records_behind}
+use Rattle.sb_log.proofs.Left.{kept_next}
 use Rattle.sb_service.specs.Views.{view_service}
-use Rattle.sb_run.specs.Batching.{all_values, stores}
-use Rattle.sb_run.proofs.BatchValues.{values_next}
+use Rattle.sb_run.proofs.Summed.{all_given, next_summed, when_ok}
 use Rattle.sb_run.proofs.batch.add_records.Goals as goal
 
-pub loop-logged-preserved : goal.loop-logged-preserved
-loop-logged-preserved c =
-    let p = checked_of c.args.c.now in
-    let services = map view_service c.args.services.now in
-    let records = c.args.records.now in
-    let at = c.loop-logged.logged-index in
-    let logged = c.logged-item.result in
+pub loop-fed-preserved : goal.loop-fed-preserved
+loop-fed-preserved c =
+    let before = c.loop-fed.invariant.summed in
+    let r = logged_of c.in-Some.logged in
+    let next = subst (λ o. GivesNext (left_of c.loop-fed.records) (left_of c.next_record.new.self) (Ok o)) c.in-Some.is c.in_ok-logged.ensures.next in
+    let done = c.in-Ok.is in
+    let valid = when_ok c.add_record-added.result tt done c.add_record-added.ensures.valid in
     record {
-      none = c.in_ok-add_record.ensures.none;
-      valid = c.in_ok-add_record.ensures.valid;
-      sums = subst (λ l. HasKeySums (stores c.args.runner.now) l c.add_record.new.sums)
-          (values_next p services (take at records) logged
-          ∙ ap (λ rs. all_values p services (map logged_of rs)) (ap (λ x. take at records ++ x ∷ []) c.logged-item.is ∙ sym (take_more records at logged c.loop-logged-test.true)))
-          (c.in_ok-add_record.ensures.sums (all_values p services (map logged_of (take at records))) c.loop-logged.invariant.sums);
+      program = c.next_record.ensures.program ∙ c.loop-fed.invariant.program;
+      none = when_ok c.add_record-added.result tt done c.add_record-added.ensures.none;
+      valid = valid;
+      summed = (
+        before.0 ++ r ∷ [],
+        sym (kept_next before.0 r (left_of c.next_record.new.self)) ∙ (sym (ap (records_behind before.0) next) ∙ before.1),
+        next_summed (checked_of c.args.c.now) (map view_service c.args.services.now) c.args.runner.now before.0 r c.loop-fed.sums c.add_record-added.new.sums before.2
+            valid (when_ok c.add_record-added.result tt done c.add_record-added.ensures.fed) (when_ok c.add_record-added.result tt done c.add_record-added.ensures.sums),
+      );
     }
 
-pub returns-clause-sums : goal.returns-clause-sums
-returns-clause-sums c =
-    let p = checked_of c.args.c.now in
-    let services = map view_service c.args.services.now in
-    subst (λ rs. HasKeySums (stores c.args.runner.now) (all_values p services (map logged_of rs)) c.loop-logged.sums) (take_all c.loop-logged.logged-index c.args.records.now (omega (arith, c.loop-logged-test.false))) c.loop-logged.invariant.sums
+pub returns : goal.returns
+returns c =
+    let before = c.loop-fed.invariant.summed in
+    let next = subst (λ o. GivesNext (left_of c.loop-fed.records) (left_of c.next_record.new.self) (Ok o)) c.in_default.is c.in_ok-logged.ensures.next in
+    (before.0, all_given before.0 _ _ before.1 next, before.2)
