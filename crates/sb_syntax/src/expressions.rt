@@ -24,6 +24,8 @@ fn signed(sign: Sign, prod: Prod) -> AddRest
     }
 }
 
+// Where a later part stops, what a rule has read is dropped by a call. Behind a `?` that drop would
+// be laid out in the rule itself, down to the atoms, and proved there.
 impl<F: Fn(Global, &mut Cursor<'_>, usize) -> Result<Expr, Fault>> Rules<F> {
     /// An expression, in which others may be open to this depth.
     #[tactic(auto, unfolding(crate::specs::Expressions::level))]
@@ -61,8 +63,13 @@ impl<F: Fn(Global, &mut Cursor<'_>, usize) -> Result<Expr, Fault>> Rules<F> {
             tokens.new }
     {
         let first = self.conj(tokens)?;
-        let rest = self.disj_rests(tokens, self.depth, Items::new(self.alloc))?;
-        Ok(Disj { first, rest })
+        match self.disj_rests(tokens, self.depth, Items::new(self.alloc)) {
+            Ok(rest) => Ok(Disj { first, rest }),
+            Err(fault) => {
+                drop(first);
+                Err(fault)
+            }
+        }
     }
 
     #[tactic(auto, unfolding(crate::specs::Expressions::disj_rests))]
@@ -94,8 +101,13 @@ impl<F: Fn(Global, &mut Cursor<'_>, usize) -> Result<Expr, Fault>> Rules<F> {
             tokens.new }
     {
         let first = self.neg(tokens, self.depth)?;
-        let rest = self.conj_rests(tokens, self.depth, Items::new(self.alloc))?;
-        Ok(Conj { first, rest })
+        match self.conj_rests(tokens, self.depth, Items::new(self.alloc)) {
+            Ok(rest) => Ok(Conj { first, rest }),
+            Err(fault) => {
+                drop(first);
+                Err(fault)
+            }
+        }
     }
 
     #[tactic(auto, unfolding(crate::specs::Expressions::conj_rests))]
@@ -147,8 +159,17 @@ impl<F: Fn(Global, &mut Cursor<'_>, usize) -> Result<Expr, Fault>> Rules<F> {
         let Some(operator) = comparison_in(tokens.peek()) else {
             return Ok(Cmp::Plain(left));
         };
-        tokens.take()?;
-        Ok(Cmp::Both(operator, left, self.add(tokens)?))
+        if let Err(fault) = tokens.take() {
+            drop(left);
+            return Err(fault);
+        }
+        match self.add(tokens) {
+            Ok(right) => Ok(Cmp::Both(operator, left, right)),
+            Err(fault) => {
+                drop(left);
+                Err(fault)
+            }
+        }
     }
 
     #[tactic(auto, unfolding(crate::specs::Expressions::add))]
@@ -158,8 +179,13 @@ impl<F: Fn(Global, &mut Cursor<'_>, usize) -> Result<Expr, Fault>> Rules<F> {
             tokens.new }
     {
         let first = self.prod(tokens)?;
-        let rest = self.add_rests(tokens, self.depth, Items::new(self.alloc))?;
-        Ok(Add { first, rest })
+        match self.add_rests(tokens, self.depth, Items::new(self.alloc)) {
+            Ok(rest) => Ok(Add { first, rest }),
+            Err(fault) => {
+                drop(first);
+                Err(fault)
+            }
+        }
     }
 
     #[tactic(auto, unfolding(crate::specs::Expressions::add_rests))]
@@ -191,8 +217,13 @@ impl<F: Fn(Global, &mut Cursor<'_>, usize) -> Result<Expr, Fault>> Rules<F> {
             tokens.new }
     {
         let first = self.unary(tokens, self.depth)?;
-        let rest = self.prod_rests(tokens, self.depth, Items::new(self.alloc))?;
-        Ok(Prod { first, rest })
+        match self.prod_rests(tokens, self.depth, Items::new(self.alloc)) {
+            Ok(rest) => Ok(Prod { first, rest }),
+            Err(fault) => {
+                drop(first);
+                Err(fault)
+            }
+        }
     }
 
     #[tactic(auto, unfolding(crate::specs::Expressions::prod_rests))]
@@ -254,7 +285,12 @@ impl<F: Fn(Global, &mut Cursor<'_>, usize) -> Result<Expr, Fault>> Rules<F> {
             tokens.new }
     {
         let atom = self.atom(tokens)?;
-        let steps = post_steps(self.alloc, tokens, self.depth, Items::new(self.alloc))?;
-        Ok(Post { atom, steps })
+        match post_steps(self.alloc, tokens, self.depth, Items::new(self.alloc)) {
+            Ok(steps) => Ok(Post { atom, steps }),
+            Err(fault) => {
+                drop(atom);
+                Err(fault)
+            }
+        }
     }
 }
