@@ -248,10 +248,39 @@ fn summing(
       flow = flow;
     }) }
 {
-    let types = types_of(alloc, key, value)?;
-    let made = kind_of(alloc, mono)?;
+    match parts_of(alloc, name, mono, key, value) {
+        Ok((name, types, made)) => Ok(store_of_all(name, types, made, flow)),
+        Err(refused) => {
+            drop(flow);
+            Err(refused)
+        }
+    }
+}
+
+// The name, the types of keys and values, and the kind with its text. What was made is dropped by a call where the kind finds
+// no memory: behind a `?` that drop would be laid out here.
+fn parts_of(
+    alloc: Global,
+    name: &Text,
+    mono: &Mono,
+    key: &Ty,
+    value: &Ty,
+) -> Result<(Text, (Ty, Ty), (Kind, Vec<u8>)), NoMemory>
+    requires { IsWithin (monoid_in mono.now) }
+    ensures name { IfOk result (λ parts. parts.0 ≡ name.now) }
+    ensures types { IfOk result (λ parts. (parts.1.0 ≡ key.now) × (parts.1.1 ≡ value.now)) }
+    ensures kind { IfOk result (λ parts. monoid_of parts.2.0 ≡ monoid_in mono.now) }
+    ensures text { IfOk result (λ parts. parts.2.1.items ≡ monoid_text (monoid_of parts.2.0)) }
+{
     let name = name.copy(alloc)?;
-    Ok(store_of_all(name, types, made, flow))
+    let types = types_of(alloc, key, value)?;
+    match kind_of(alloc, mono) {
+        Ok(made) => Ok((name, types, made)),
+        Err(refused) => {
+            drop(types);
+            Err(refused)
+        }
+    }
 }
 
 fn types_of(alloc: Global, key: &Ty, value: &Ty) -> Result<(Ty, Ty), NoMemory>
