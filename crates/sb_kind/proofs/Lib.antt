@@ -6,3 +6,4 @@ pub mod ReadLists
 pub mod Readers
 pub mod Texts
 pub mod Undos
+pub mod Crossing

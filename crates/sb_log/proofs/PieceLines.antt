@@ -1,5 +1,5 @@
 -- The lines of pieces, and what is read of them.
-use Rattle.std.proofs.Common.{◌≡◌, ℕ, zero, suc, add-one, ◌+◌, ◌<◌, ◌≤◌, ◌∙◌, ◌==◌, true, false, cond, List, [], ◌∷◌, ◌++◌, append-nil, length, take, drop, slice_index_or, Ok, Err, refl, sym, ap, subst, arith}
+use Rattle.std.proofs.Common.{◌≡◌, ℕ, zero, suc, add-one, ◌+◌, ◌-◌, ◌<◌, ◌≤◌, ◌∙◌, ◌==◌, true, false, cond, List, [], ◌∷◌, ◌++◌, append-nil, length, take, drop, slice_index_or, Ok, Err, refl, sym, ap, subst, arith}
 use Rattle.std.specs.Prelude.{Result, nat_lt}
 use Rattle.std.proofs.lemmas.Bool.Decides.{nat_tests}
 use Rattle.std.proofs.lemmas.List.{append_assoc, length-append}
@@ -100,34 +100,23 @@ cut_at bytes at first rest less is front back =
     (subst (λ r. SplitsLines (take at bytes ++ 10 ∷ drop (suc at) bytes) (take at bytes ++ 10 ∷ []) r) (sym (back ∙ ap (λ n. drop n bytes) one))
     (lines_split (take at bytes) (drop (suc at) bytes))))
 
--- ---- a piece more
+-- ---- two pieces in a row
 
-all_more : {X : Type 0} (P : X → Type 0) (xs : List X) (x : X) → AllByRecursion P xs → P x → AllByRecursion P (xs ++ x ∷ [])
-all_more P [] x h p = (p, tt)
-all_more P (y ∷ xs) x h p = (h.0, all_more P xs x h.1 p)
+module _ (bytes first second : List ℕ) (before count behind : ℕ) (splits : SplitsLines bytes first second) (counted : count ≡ length (lines_of first)) (sum : behind ≡ before + count) where
+  pub first_count : count ≡ length (lines_from (before + 1) first)
+  first_count = counted ∙ same_count 1 (before + 1) first
 
--- the pieces so far, and the lines of the rest behind them
-pub record AreCut (cut : List Piece) (before : ℕ) (rest : List ℕ) (all : List Line) : Type 0 where
-  pub pieces : AllByRecursion IsPiece cut
-  pub lines : flat_map piece_lines cut ++ lines_from (before + 1) rest ≡ all
-  pub count : before ≡ length (flat_map piece_lines cut)
+  -- they have the lines of both
+  pub both_lines : lines_from (before + 1) first ++ lines_from (behind + 1) second ≡ lines_from (before + 1) bytes
+  both_lines = ap (λ n. lines_from (before + 1) first ++ lines_from n second) (let own = first_count in omega (arith, sum, own)) ∙ sym (splits (before + 1))
 
-pub next_piece : (pieces after : List Piece) (piece : Piece) (rest behind : List ℕ) (next : ℕ) (all : List Line) → AreCut pieces piece.before rest all → after ≡ pieces ++ piece ∷ []
-    → piece.lines ≡ length (lines_of piece.bytes.now) → SplitsLines rest piece.bytes.now behind → next ≡ piece.before + piece.lines → AreCut after next behind all
-next_piece pieces after piece rest behind next all cut is count splits sum = subst (λ ps. AreCut ps next behind all) (sym is) (record {
-  pieces = all_more IsPiece pieces piece cut.pieces own;
-  lines =
-      ap (λ ls. ls ++ lines_from (next + 1) behind) more
-      ∙ (append_assoc (flat_map piece_lines pieces) (piece_lines piece) (lines_from (next + 1) behind)
-      ∙ (ap (λ ls. flat_map piece_lines pieces ++ ls) (ap (λ n. piece_lines piece ++ lines_from n behind) (omega (arith, sum, own)) ∙ sym (splits (piece.before + 1))) ∙ cut.lines));
-  count = let before = cut.count in let long = length-append (flat_map piece_lines pieces) (piece_lines piece) in let same = ap length more in omega (arith, before, long, same, sum, own);
-})
-  where
-    own : IsPiece piece
-    own = count ∙ same_count 1 (piece.before + 1) piece.bytes.now
-
-    more : flat_map piece_lines (pieces ++ piece ∷ []) ≡ flat_map piece_lines pieces ++ piece_lines piece
-    more = flat_map-append piece_lines pieces (piece ∷ []) ∙ ap (λ ls. flat_map piece_lines pieces ++ ls) (append-nil (piece_lines piece))
+  -- the second has as many as the first leaves
+  pub second_count : (all left : ℕ) → all ≡ length (lines_from (before + 1) bytes) → left ≡ all - count → left ≡ length (lines_from (behind + 1) second)
+  second_count all left is rest =
+      let own = first_count in
+      let whole = length-append (lines_from (before + 1) first) (lines_from (behind + 1) second) in
+      let same = ap length both_lines in
+      omega (arith, is, rest, own, whole, same)
 
 -- ---- records
 

@@ -9,5 +9,5 @@ mod reader;
 mod record;
 
 pub use log::read_log;
-pub use pieces::{Piece, Pieces, pieces_of};
+pub use pieces::Piece;
 pub use reader::Records;

@@ -1,12 +1,11 @@
-//! A text in pieces of whole lines, which can be read side by side.
-ghost use Rattle.std.specs.Prelude.{◌≡◌, ◌<◌, nat_le, IfOk, length};
-ghost use Rattle.std.specs.List.{AllByRecursion, flat_map};
+//! Pieces of a text, of whole lines, which can be read side by side.
+ghost use Rattle.std.specs.Prelude.{◌≡◌, ◌<◌, ◌++◌, nat_le, IfOk, length};
 ghost use Rattle.sb_text.specs.Lines.{lines_of};
 ghost use Rattle.sb_check.specs.Log.{most_records};
 ghost use Rattle.sb_log.specs.PieceLines.{IsPiece, SplitsLines, piece_lines};
 
 use sb_text::{Lines, NoMemory};
-use std::alloc::{AllocError, Global};
+use std::alloc::AllocError;
 
 const LF: u8 = b'\n';
 
@@ -23,46 +22,55 @@ pub struct Piece<'a> {
     pub bytes: &'a [u8],
 }
 
-/// All pieces of a text, in order, and how many lines they have together.
-#[derive(Drop)]
-pub struct Pieces<'a> {
-    pub pieces: Vec<Piece<'a>>,
-    pub lines: u64,
-}
+impl<'a> Piece<'a> {
+    /// A whole text.
+    pub fn whole(bytes: &'a [u8]) -> Result<Piece<'a>, NoMemory>
+        ensures piece { IfOk result IsPiece }
+        ensures lines { IfOk result (λ piece. piece_lines piece ≡ lines_of bytes.now) }
+    {
+        Ok(Piece {
+            before: 0,
+            lines: count_lines(bytes)?,
+            bytes,
+        })
+    }
 
-impl<'a> Pieces<'a> {
     /// Whether a log may have so many lines.
-    pub fn fit(&self) -> bool
+    pub fn fits(&self) -> bool
         ensures { result ≡ nat_le self.now.lines most_records }
     {
         self.lines <= RECORD_LIMIT
     }
-}
 
-/// A text in pieces. Each but the last has at least so many bytes and ends with the first LF behind them.
-pub fn pieces_of(alloc: Global, bytes: &[u8], size: usize) -> Result<Pieces<'_>, NoMemory>
-    ensures pieces { IfOk result (λ p. AllByRecursion IsPiece p.pieces.items) }
-    ensures lines { IfOk result (λ p. flat_map piece_lines p.pieces.items ≡ lines_of bytes.now) }
-    ensures count { IfOk result (λ p. p.lines ≡ length (lines_of bytes.now)) }
-{
-    let mut pieces = Vec::new(alloc);
-    let mut rest = bytes;
-    let mut before: u64 = 0;
-    while !rest.is_empty() {
-        let (bytes, behind) = first_piece(rest, size);
-        let lines = count_lines(bytes)?;
-        pieces.push(Piece {
+    /// The lines up to the first LF behind so many bytes, and those that follow; all of them and none where there is no such
+    /// LF.
+    pub fn split(self, size: usize) -> Result<(Piece<'a>, Piece<'a>), NoMemory>
+        requires { IsPiece self }
+        ensures first { IfOk result (λ both. IsPiece both.0) }
+        ensures second { IfOk result (λ both. IsPiece both.1) }
+        ensures lines { IfOk result (λ both. piece_lines both.0 ++ piece_lines both.1
+            ≡ piece_lines self.entry) }
+    {
+        let Piece {
             before,
             lines,
             bytes,
-        })?;
-        before = before.checked_add(lines).ok_or(AllocError)?;
-        rest = behind;
+        } = self;
+        let (first, second) = first_piece(bytes, size);
+        let count = count_lines(first)?;
+        let behind = before.checked_add(count).ok_or(AllocError)?;
+        let first = Piece {
+            before,
+            lines: count,
+            bytes: first,
+        };
+        let second = Piece {
+            before: behind,
+            lines: lines.saturating_sub(count),
+            bytes: second,
+        };
+        Ok((first, second))
     }
-    Ok(Pieces {
-        pieces,
-        lines: before,
-    })
 }
 
 // The lines up to the first LF behind so many bytes, and those that follow; all of them where there is no such LF.

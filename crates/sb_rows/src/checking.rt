@@ -7,6 +7,7 @@ use anyhow::Context;
 use sb_io::{MemShelf, MemSink};
 use sb_run::summingbird;
 use std::alloc::Global;
+use std::thread::Threads;
 
 // What a call gave.
 #[derive(Drop)]
@@ -41,7 +42,8 @@ fn shelf_of(alloc: Global, row: &Row, case: Option<&Case>) -> anyhow::Result<Mem
 }
 
 // The one place that makes the top call.
-fn run(
+fn run<R: Threads + Sync>(
+    rt: &R,
     alloc: Global,
     row: &Row,
     words: &[String],
@@ -51,14 +53,14 @@ fn run(
     for call in &row.failing_puts {
         sink.fail_at(*call)?;
     }
-    let status = summingbird(alloc, words, shelf, &mut sink);
+    let status = summingbird(rt, alloc, words, shelf, &mut sink);
     let output = sink.bytes().to_vec(alloc)?;
     Ok(Outcome { status, output })
 }
 
 /// Runs a row. Prints `ok` and its title where each call gives what the row wants, and the
 /// definition's plain program the same sums; and else what differs first.
-pub fn agrees(rt: &impl Print, alloc: Global, row: &Row) -> anyhow::Result<bool> {
+pub fn agrees<R: Print + Threads + Sync>(rt: &R, alloc: Global, row: &Row) -> anyhow::Result<bool> {
     if row.cases.is_empty() && !call_agrees(rt, alloc, row, None, &row.output)? {
         return Ok(false);
     }
@@ -76,8 +78,8 @@ pub fn agrees(rt: &impl Print, alloc: Global, row: &Row) -> anyhow::Result<bool>
     Ok(true)
 }
 
-fn call_agrees(
-    rt: &impl Print,
+fn call_agrees<R: Print + Threads + Sync>(
+    rt: &R,
     alloc: Global,
     row: &Row,
     case: Option<&Case>,
@@ -89,7 +91,7 @@ fn call_agrees(
         None => &row.words,
     };
     let mut shelf = shelf_of(alloc, row, case)?;
-    let came = run(alloc, row, words, &mut shelf)?;
+    let came = run(rt, alloc, row, words, &mut shelf)?;
     if came.status != row.status || came.output.as_slice() != wanted {
         println!(rt; "differs: {}", row.title)?;
         println!(rt; "  status: wanted {}, came {}", row.status, came.status)?;

@@ -11,7 +11,7 @@ use anyhow::{Context, ensure};
 use checking::agrees;
 use reading::Reader;
 use std::rt::{Env, Files};
-use std::thread::Builder;
+use std::thread::{Builder, Threads};
 use std::{env, fs, thread};
 
 // The stack of the thread that runs the rows, in bytes. The deepest programs nest 124 expressions; as Rattle's own compiler
@@ -19,7 +19,7 @@ use std::{env, fs, thread};
 const STACK: usize = 64 << 20;
 
 // Runs the rows of a text, and tells how many differ.
-fn run_rows<R: Print + AllocGlobal>(rt: &R, text: &str) -> anyhow::Result<u64> {
+fn run_rows<R: Print + AllocGlobal + Threads + Sync>(rt: &R, text: &str) -> anyhow::Result<u64> {
     let mut differing: u64 = 0;
     let mut reader = Reader::new(rt.alloc());
     let mut number: u64 = 0;
@@ -41,7 +41,7 @@ fn run_rows<R: Print + AllocGlobal>(rt: &R, text: &str) -> anyhow::Result<u64> {
 }
 
 // Runs the rows of the files that the words name.
-fn run_files<R: Env + Files + Print + AllocGlobal>(rt: &R) -> anyhow::Result<u64> {
+fn run_files<R: Env + Files + Print + AllocGlobal + Threads + Sync>(rt: &R) -> anyhow::Result<u64> {
     let mut differing: u64 = 0;
     for name in env::args(rt)?.skip(1) {
         let text = fs::read_to_string(rt, name.as_str());

@@ -15,5 +15,7 @@ pub mod StoreReport
 pub mod StoreRuns
 pub mod Stores
 pub mod Summed
+pub mod PieceSums
 pub mod TranscriptExamples
 pub mod Transcripts
+pub mod Crossing

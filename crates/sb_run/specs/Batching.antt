@@ -1,8 +1,9 @@
 -- The sums of a batch job: what its dictionaries mean, and its rows.
-use Rattle.std.specs.Prelude.{ℕ, zero, suc, List, [], ◌++◌, map, length, slice_get}
+use Rattle.std.specs.Prelude.{ℕ, zero, suc, Result, List, [], ◌++◌, map, length, slice_get}
 use Rattle.std.specs.List.{flat_map}
-use Rattle.sb_check.specs.Log.{Logged}
+use Rattle.sb_check.specs.Log.{LogFault, Logged}
 use Rattle.sb_check.specs.Programs.{CheckedProgram}
+use Rattle.sb_check.specs.declared.log.LogError.{LogError}
 use Rattle.sb_feed.specs.Jobs.{AreValid, Dictionaries, meant, valid_by}
 use Rattle.sb_feed.specs.declared.key.KeyBytes.{KeyBytes}
 use Rattle.sb_job.specs.Sums.{HasKeySums}
@@ -10,6 +11,7 @@ use Rattle.sb_kind.specs.ElementText.{element_text}
 use Rattle.sb_kind.specs.Elements.{IsOf, plus}
 use Rattle.sb_kind.specs.declared.agg.Agg.{Agg}
 use Rattle.sb_kind.specs.declared.dictionary.KindM.{KindM}
+use Rattle.sb_log.specs.Reading.{GivesLog}
 use Rattle.sb_plan.specs.Given.{Planned, fed_at, planned}
 use Rattle.sb_plan.specs.Runners.{StoresValue, kind_monoid, name_at}
 use Rattle.sb_report.specs.Report.{printed_row}
@@ -54,3 +56,7 @@ pub record AreSummed (c : CheckedProgram) (services : List Rows) (runner : Store
   pub valid : AreValid (stores runner) table
   pub fed : AreValid (stores runner) (all_values c services records)
   pub sums : HasKeySums (stores runner) (all_values c services records) table
+
+-- the sums of a log that is read, or what is wrong with it; want of memory is free
+pub record GivesSums (c : CheckedProgram) (services : List Rows) (runner : StoresValue KindM) (said : Result (List Logged) LogFault) (sums : Result (List (KeyBytes × Agg)) LogError) : Type 0 where
+  pub gives : GivesLog (AreSummed c services runner) said sums

@@ -8,6 +8,7 @@ mod ending;
 mod laws;
 mod live;
 mod report;
+mod summing;
 mod top;
 
 pub use batch::batch_command;

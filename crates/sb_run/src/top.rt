@@ -14,12 +14,14 @@ use sb_io::{Shelf, Sink};
 use sb_load::Refusal;
 use sb_words::{Command, Settings, WordsError};
 use std::alloc::Global;
+use std::thread::Threads;
 
 /// Does what the words of a command line say, without the program's own name: reads the files that they name from the
 /// shelf, and writes to the sink. The answer is the status: 0 done, 2 no command, 3 a fault of the shelf, 4 a fault of
 /// the sink, 5 want of memory, 6 a program that isn't accepted, 7 a log that isn't, 8 a script that isn't, 9 a service that
 /// isn't. A refusal's line is written, but at 4.
-pub fn summingbird<H: Shelf, K: Sink>(
+pub fn summingbird<R: Threads + Sync, H: Shelf, K: Sink>(
+    rt: &R,
     alloc: Global,
     words: &[String],
     shelf: &mut H,
@@ -42,14 +44,20 @@ pub fn summingbird<H: Shelf, K: Sink>(
     ensures later { K.faults sink.old ≤ K.faults sink.new }
 {
     match sb_words::words(alloc, words) {
-        Ok(command) => carry_out(alloc, shelf, sink, &command),
+        Ok(command) => carry_out(rt, alloc, shelf, sink, &command),
         Err(WordsError::Usage) => put_usage(sink),
         Err(WordsError::NoMemory) => put_refusal(sink, &Refusal::NoMemory),
     }
 }
 
 // Does what a command says.
-fn carry_out<H: Shelf, K: Sink>(alloc: Global, shelf: &mut H, sink: &mut K, command: &Command) -> u8
+fn carry_out<R: Threads + Sync, H: Shelf, K: Sink>(
+    rt: &R,
+    alloc: Global,
+    shelf: &mut H,
+    sink: &mut K,
+    command: &Command,
+) -> u8
     requires within { IsWithin command.now }
     ensures { Keeps (Some command.now) (H.content shelf.old) (H.content shelf.new)
         (H.faults shelf.old) (H.faults shelf.new) (K.written sink.old) (K.written sink.new)
@@ -60,7 +68,7 @@ fn carry_out<H: Shelf, K: Sink>(alloc: Global, shelf: &mut H, sink: &mut K, comm
     }
     match command {
         Command::Check { .. } => check_command(alloc, command, shelf, sink),
-        Command::Batch { .. } => batch_command(alloc, command, shelf, sink),
+        Command::Batch { .. } => batch_command(rt, alloc, command, shelf, sink),
         _ => run_command(alloc, command, shelf, sink),
     }
 }

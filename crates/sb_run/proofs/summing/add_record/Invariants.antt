@@ -8,7 +8,7 @@ use Rattle.sb_kind.specs.declared.agg.Agg.{Agg}
 use Rattle.sb_plan.specs.Given.{planned}
 use Rattle.sb_service.specs.Views.{view_service}
 use Rattle.sb_run.specs.Batching.{stores, values_below}
-use Rattle.sb_run.proofs.batch.add_record.Given as goal
+use Rattle.sb_run.proofs.summing.add_record.Given as goal
 
 abbrev pub invariant-loop-store : goal.invariant-loop-store
 invariant-loop-store l = record {

@@ -8,7 +8,7 @@ use Rattle.sb_service.specs.Views.{view_service}
 use Rattle.sb_run.specs.Batching.{keyed, stores, values_below}
 use Rattle.sb_run.proofs.Batches.{many_planned}
 use Rattle.sb_run.proofs.Summed.{both_valid}
-use Rattle.sb_run.proofs.batch.add_record.Goals as goal
+use Rattle.sb_run.proofs.summing.add_record.Goals as goal
 
 pub loop-store-preserved : goal.loop-store-preserved
 loop-store-preserved c =

@@ -6,7 +6,7 @@ use Rattle.sb_feed.specs.Jobs.{AreValid}
 use Rattle.sb_job.specs.Sums.{HasKeySums}
 use Rattle.sb_kind.specs.declared.agg.Agg.{Agg}
 use Rattle.sb_run.specs.Batching.{IsFedTo, keyed, stores}
-use Rattle.sb_run.proofs.batch.add_fed.Given as goal
+use Rattle.sb_run.proofs.summing.add_fed.Given as goal
 
 abbrev pub invariant-loop-one : goal.invariant-loop-one
 invariant-loop-one l = record {

@@ -4,7 +4,7 @@ use Rattle.std.specs.Vec.Iter.{drain_items}
 use Rattle.sb_job.specs.Sums.{HasKeySums}
 use Rattle.sb_run.specs.Batching.{IsFedTo, keyed, stores}
 use Rattle.sb_run.proofs.Lists.{map-last}
-use Rattle.sb_run.proofs.batch.add_fed.Goals as goal
+use Rattle.sb_run.proofs.summing.add_fed.Goals as goal
 
 pub loop-one-preserved : goal.loop-one-preserved
 loop-one-preserved c =

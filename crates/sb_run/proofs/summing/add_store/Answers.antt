@@ -14,7 +14,7 @@ use Rattle.sb_types.specs.ValView.{value_of}
 use Rattle.sb_run.specs.Batching.{keyed, stores}
 use Rattle.sb_run.proofs.Batches.{fed_to_store}
 use Rattle.sb_run.proofs.Summed.{keyed_valid}
-use Rattle.sb_run.proofs.batch.add_store.Goals as goal
+use Rattle.sb_run.proofs.summing.add_store.Goals as goal
 
 pub add_fed-requires-clause-values : goal.add_fed-requires-clause-values
 add_fed-requires-clause-values c =

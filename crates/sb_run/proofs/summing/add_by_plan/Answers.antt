@@ -6,7 +6,7 @@ use Rattle.sb_log.specs.Reading.{records_behind}
 use Rattle.sb_log.proofs.Left.{kept_next}
 use Rattle.sb_service.specs.Views.{view_service}
 use Rattle.sb_run.proofs.Summed.{all_given, next_summed, when_ok}
-use Rattle.sb_run.proofs.batch.add_records.Goals as goal
+use Rattle.sb_run.proofs.summing.add_by_plan.Goals as goal
 
 pub loop-fed-preserved : goal.loop-fed-preserved
 loop-fed-preserved c =

@@ -6,7 +6,7 @@ use Rattle.sb_log.specs.Reader.{left_of, lines_left, program_of}
 use Rattle.sb_log.specs.Reading.{records_behind}
 use Rattle.sb_service.specs.Views.{view_service}
 use Rattle.sb_run.specs.Batching.{AreSummed, stores}
-use Rattle.sb_run.proofs.batch.add_records.Given as goal
+use Rattle.sb_run.proofs.summing.add_by_plan.Given as goal
 
 abbrev pub invariant-loop-fed : goal.invariant-loop-fed
 invariant-loop-fed l = record {
