@@ -1,4 +1,13 @@
 pub mod Blanks
+pub mod ExpressionTypes
+pub mod NodeTypes
+pub mod NumberTypes
+pub mod OperationTypes
 pub mod Picked
 pub mod Taken
+pub mod TermViews
+pub mod TextTypes
+pub mod TypeJoins
+pub mod Typing
 pub mod Views
+pub mod WalkTypes

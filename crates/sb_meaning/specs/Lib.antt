@@ -3,5 +3,7 @@ pub mod Expression
 pub mod Fold
 pub mod Its
 pub mod Operations
+pub mod Shaped
 pub mod Streams
+pub mod Texts
 pub mod Words

@@ -1,8 +1,16 @@
 pub mod ByRecord
 pub mod Folded
 pub mod Found
+pub mod GivenLists
+pub mod GivenViews
 pub mod Gives
 pub mod Kept
 pub mod Keys
+pub mod PathCosts
 pub mod Placing
+pub mod ProgramBounds
 pub mod Runs
+pub mod StepViews
+pub mod StreamBounds
+pub mod StreamTypes
+pub mod StreamTyping

@@ -1,8 +1,12 @@
+pub mod Bounds
 pub mod Emitted
 pub mod Entries
 pub mod Feeding
 pub mod Given
 pub mod Parts
+pub mod PathSteps
 pub mod Paths
 pub mod Plans
 pub mod Runners
+pub mod Steps
+pub mod TypedRecords

@@ -5,7 +5,9 @@ ghost use Rattle.sb_meaning.specs.Expression.{ev};
 ghost use Rattle.sb_meaning.specs.Operations.{elements_in};
 ghost use Rattle.sb_meaning.specs.Streams.{is_true, join_with, list_at};
 ghost use Rattle.sb_plan.specs.Given.{given};
+ghost use Rattle.sb_plan.specs.PathSteps.{paths_cost, paths_steps, stage_steps, steps_behind};
 ghost use Rattle.sb_plan.specs.Paths.{gives, root_gives, staged};
+ghost use Rattle.sb_plan.specs.Steps.{flow_steps};
 
 use sb_terms::{Flow, Term};
 use sb_text::NoMemory;
@@ -37,7 +39,8 @@ pub struct Path<'a> {
 
 /// The paths of a stream. A merge has those of its left side before those of its right one.
 pub fn paths<'a>(alloc: Global, flow: &'a Flow) -> Result<Vec<Path<'a>>, NoMemory>
-    ensures { IfOk result (λ paths. gives paths.items ≡ given flow.now) }
+    ensures values { IfOk result (λ paths. gives paths.items ≡ given flow.now) }
+    ensures steps { IfOk result (λ paths. paths_steps paths.items ≡ flow_steps flow.now) }
 {
     match flow {
         Flow::Source(number) => path_from(alloc, Root::Source(*number)),
@@ -55,8 +58,10 @@ pub fn paths<'a>(alloc: Global, flow: &'a Flow) -> Result<Vec<Path<'a>>, NoMemor
 }
 
 fn mapped<'a>(alloc: Global, before: Vec<Path<'a>>, by: &'a Term) -> Result<Vec<Path<'a>>, NoMemory>
-    ensures { IfOk result (λ paths. gives paths.items
+    ensures values { IfOk result (λ paths. gives paths.items
         ≡ λ r services lets. map (ev by.now) (gives before.entry.items r services lets)) }
+    ensures steps { IfOk result (λ paths. paths_steps paths.items
+        ≡ steps_behind 1 (paths_cost before.entry.items)) }
 {
     staged(alloc, before, Stage::Map(by))
 }
@@ -66,8 +71,10 @@ fn filtered<'a>(
     before: Vec<Path<'a>>,
     by: &'a Term,
 ) -> Result<Vec<Path<'a>>, NoMemory>
-    ensures { IfOk result (λ paths. gives paths.items
+    ensures values { IfOk result (λ paths. gives paths.items
         ≡ λ r services lets. filter (is_true by.now) (gives before.entry.items r services lets)) }
+    ensures steps { IfOk result (λ paths. paths_steps paths.items
+        ≡ steps_behind 1 (paths_cost before.entry.items)) }
 {
     staged(alloc, before, Stage::Filter(by))
 }
@@ -77,21 +84,27 @@ fn flat_mapped<'a>(
     before: Vec<Path<'a>>,
     by: &'a Term,
 ) -> Result<Vec<Path<'a>>, NoMemory>
-    ensures { IfOk result (λ paths. gives paths.items ≡ λ r services lets.
+    ensures values { IfOk result (λ paths. gives paths.items ≡ λ r services lets.
         flat_map (λ v. elements_in (ev by.now v)) (gives before.entry.items r services lets)) }
+    ensures steps { IfOk result (λ paths. paths_steps paths.items
+        ≡ steps_behind 1 (paths_cost before.entry.items)) }
 {
     staged(alloc, before, Stage::FlatMap(by))
 }
 
 fn joined<'a>(alloc: Global, before: Vec<Path<'a>>, number: u64) -> Result<Vec<Path<'a>>, NoMemory>
-    ensures { IfOk result (λ paths. gives paths.items ≡ λ r services lets.
+    ensures values { IfOk result (λ paths. gives paths.items ≡ λ r services lets.
         map (join_with (list_at number services)) (gives before.entry.items r services lets)) }
+    ensures steps { IfOk result (λ paths. paths_steps paths.items
+        ≡ steps_behind 0 (paths_cost before.entry.items)) }
 {
     staged(alloc, before, Stage::Join(number))
 }
 
 fn path_from<'a>(alloc: Global, root: Root) -> Result<Vec<Path<'a>>, NoMemory>
-    ensures { IfOk result (λ paths. gives paths.items ≡ λ r services lets. root_gives r lets root) }
+    ensures values { IfOk result (λ paths. gives paths.items
+        ≡ λ r services lets. root_gives r lets root) }
+    ensures steps { IfOk result (λ paths. paths_steps paths.items ≡ λ r services lets. 0) }
 {
     let mut paths = Vec::with_capacity(alloc, 1)?;
     paths.push(Path {
@@ -117,7 +130,10 @@ fn staged<'a>(
     before: Vec<Path<'a>>,
     stage: Stage<'a>,
 ) -> Result<Vec<Path<'a>>, NoMemory>
-    ensures { IfOk result (λ paths. gives paths.items ≡ staged stage.entry (gives before.entry.items)) }
+    ensures values { IfOk result (λ paths. gives paths.items
+        ≡ staged stage.entry (gives before.entry.items)) }
+    ensures steps { IfOk result (λ paths. paths_steps paths.items
+        ≡ steps_behind (stage_steps stage.entry) (paths_cost before.entry.items)) }
 {
     let mut paths = Vec::with_capacity(alloc, before.len())?;
     for mut path in before {

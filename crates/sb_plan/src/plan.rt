@@ -6,7 +6,10 @@ ghost use Rattle.sb_check.specs.Declarations.{let_of, store_of};
 ghost use Rattle.sb_check.specs.Log.{logged_of};
 ghost use Rattle.sb_meaning.specs.Expression.{ev};
 ghost use Rattle.sb_plan.specs.Given.{fed_by, feeding_of, given, let_values, planned};
+ghost use Rattle.sb_plan.specs.Bounds.{AreWithin};
+ghost use Rattle.sb_plan.specs.PathSteps.{ending_steps, paths_cost, plan_costs, steps_behind, store_steps};
 ghost use Rattle.sb_plan.specs.Paths.{gives};
+ghost use Rattle.sb_plan.specs.Steps.{costs_of, flow_cost, flow_steps};
 ghost use Rattle.sb_plan.specs.Plans.{EndsIn, feeding_by, is_fed, plan_value};
 ghost use Rattle.sb_service.specs.Views.{view_service};
 ghost use Rattle.sb_types.specs.Value.{Value, pair};
@@ -41,7 +44,9 @@ pub struct Plan<'a> {
 
 /// The plan of a program, lent from it.
 pub fn plan_of<'a>(alloc: Global, c: &'a Checked) -> Result<Plan<'a>, NoMemory>
-    ensures { IfOk result (λ plan. plan_value plan ≡ planned (checked_of c.now)) }
+    ensures value { IfOk result (λ plan. plan_value plan ≡ planned (checked_of c.now)) }
+    ensures costs { IfOk result (λ plan. plan_costs plan ≡ costs_of (checked_of c.now)) }
+    ensures within { IfOk result (λ plan. AreWithin (plan_costs plan) (checked_of c.now)) }
 {
     let lets = plan_lets(alloc, c.lets())?;
     let stores = plan_stores(alloc, c.stores())?;
@@ -49,8 +54,10 @@ pub fn plan_of<'a>(alloc: Global, c: &'a Checked) -> Result<Plan<'a>, NoMemory>
 }
 
 fn plan_lets<'a>(alloc: Global, lets: &'a [LetDecl]) -> Result<Vec<Vec<Path<'a>>>, NoMemory>
-    ensures { IfOk result (λ plans. map (λ ps. gives ps.items) plans.items
+    ensures values { IfOk result (λ plans. map (λ ps. gives ps.items) plans.items
         ≡ map (λ l. given l.stream.flow) (map let_of lets.now)) }
+    ensures costs { IfOk result (λ plans. map (λ ps. paths_cost ps.items) plans.items
+        ≡ map (λ l. flow_cost l.stream.flow) (map let_of lets.now)) }
 {
     let mut plans = Vec::with_capacity(alloc, lets.len())?;
     for bound in lets {
@@ -60,8 +67,10 @@ fn plan_lets<'a>(alloc: Global, lets: &'a [LetDecl]) -> Result<Vec<Vec<Path<'a>>
 }
 
 fn plan_stores<'a>(alloc: Global, stores: &'a [StoreDecl]) -> Result<Vec<StorePlan<'a>>, NoMemory>
-    ensures { IfOk result (λ plans. map feeding_by plans.items
+    ensures values { IfOk result (λ plans. map feeding_by plans.items
         ≡ map feeding_of (map store_of stores.now)) }
+    ensures steps { IfOk result (λ plans. map store_steps plans.items
+        ≡ map (λ s. flow_steps s.flow) (map store_of stores.now)) }
 {
     let mut plans = Vec::with_capacity(alloc, stores.len())?;
     for store in stores {
@@ -72,7 +81,8 @@ fn plan_stores<'a>(alloc: Global, stores: &'a [StoreDecl]) -> Result<Vec<StorePl
 
 // A last stage that makes a pair is left to the feeder.
 fn plan_store<'a>(alloc: Global, store: &'a StoreDecl) -> Result<StorePlan<'a>, NoMemory>
-    ensures { IfOk result (λ plan. feeding_by plan ≡ feeding_of (store_of store.now)) }
+    ensures value { IfOk result (λ plan. feeding_by plan ≡ feeding_of (store_of store.now)) }
+    ensures steps { IfOk result (λ plan. store_steps plan ≡ flow_steps (store_of store.now).flow) }
 {
     let (flow, ending) = split_ending(&store.flow);
     let kind = &store.kind;
@@ -84,7 +94,9 @@ fn plan_store<'a>(alloc: Global, store: &'a StoreDecl) -> Result<StorePlan<'a>, 
 
 // The stream up to the last stage, and that stage where it makes a pair; else the whole stream.
 fn split_ending<'a>(flow: &'a Flow) -> (&'a Flow, Ending<'a>)
-    ensures { EndsIn flow.now result.0.now result.1 }
+    ensures value { EndsIn flow.now result.0.now result.1 }
+    ensures steps { flow_steps flow.now
+        ≡ steps_behind (ending_steps result.1) (flow_cost result.0.now) }
 {
     match flow {
         Flow::Map(before, by) => match split_pair(by) {

@@ -17,7 +17,7 @@ use Rattle.sb_plan.proofs.Runs.{few_batches, runs}
 use Rattle.sb_plan.proofs.online_runner.OnlineRunner.new.Goals as goal
 
 pub entries-requires-clause-plan : goal.entries-requires-clause-plan
-entries-requires-clause-plan c = c.in_ok-plan.ensures ∙ ap planned c.checked-c.ensures.value
+entries-requires-clause-plan c = c.in_ok-plan.ensures.value ∙ ap planned c.checked-c.ensures.value
 
 pub entries-requires-clause-stores : goal.entries-requires-clause-stores
 entries-requires-clause-stores c =
