@@ -1,14 +1,14 @@
 //! Copies of elements.
-ghost use Rattle.std.specs.Prelude.{◌≡◌, IfOk};
+ghost use Rattle.std.specs.Prelude.{◌≡◌, ◌++◌, IfOk, OnOk};
 
-use crate::agg::{Agg, Tops};
-use crate::boxed::Boxed;
+use crate::agg::{Agg, Tops, pair_of};
 use crate::many::Many;
 use sb_laws::{Items, NoMemory};
 use sb_types::Val;
 use std::alloc::Global;
 
 /// An equal element.
+#[cycle(copy)]
 pub fn copy(alloc: Global, a: &Agg) -> Result<Agg, NoMemory>
     ensures { IfOk result (λ copied. copied ≡ a.now) }
 {
@@ -25,17 +25,52 @@ pub fn copy(alloc: Global, a: &Agg) -> Result<Agg, NoMemory>
         Agg::Hll(registers) => Ok(Agg::Hll(registers.copy(alloc)?)),
         Agg::Pair(left, right) => {
             let left = copy(alloc, left.get())?;
-            let right = copy(alloc, right.get())?;
-            Ok(Agg::Pair(Boxed::new(alloc, left)?, Boxed::new(alloc, right)?))
+            match copy(alloc, right.get()) {
+                Ok(right) => pair_of(alloc, left, right),
+                Err(refused) => {
+                    drop(left);
+                    Err(refused)
+                }
+            }
         }
         Agg::Map(entries) => {
             let mut copied = Vec::with_capacity(alloc, entries.len())?;
-            for entry in entries.as_slice() {
-                let key = sb_types::copy(alloc, &entry.0)?;
-                let part = copy(alloc, &entry.1)?;
-                copied.push((key, part))?;
+            match push_entries(alloc, entries.as_slice(), &mut copied) {
+                Ok(()) => Ok(Agg::Map(Many::from_vec(copied))),
+                Err(refused) => {
+                    drop(copied);
+                    Err(refused)
+                }
             }
-            Ok(Agg::Map(Many::from_vec(copied)))
+        }
+    }
+}
+
+// Appends equal entries. A refusal leaves some of them behind.
+#[cycle(copy)]
+fn push_entries(
+    alloc: Global,
+    entries: &[(Val, Agg)],
+    out: &mut Vec<(Val, Agg)>,
+) -> Result<(), NoMemory>
+    ensures { OnOk result (out.new.items ≡ out.old.items ++ entries.now) }
+{
+    for entry in entries {
+        out.push(copy_entry(alloc, entry)?)?;
+    }
+    Ok(())
+}
+
+#[cycle(copy)]
+fn copy_entry(alloc: Global, entry: &(Val, Agg)) -> Result<(Val, Agg), NoMemory>
+    ensures { IfOk result (λ copied. copied ≡ entry.now) }
+{
+    let key = sb_types::copy(alloc, &entry.0)?;
+    match copy(alloc, &entry.1) {
+        Ok(part) => Ok((key, part)),
+        Err(refused) => {
+            drop(key);
+            Err(refused)
         }
     }
 }
