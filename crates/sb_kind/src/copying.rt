@@ -1,5 +1,5 @@
 //! Copies of elements.
-ghost use Rattle.std.specs.Prelude.{◌≡◌, ◌++◌, IfOk, OnOk};
+ghost use Rattle.std.specs.Prelude.{◌≡◌, [], ◌∷◌, ◌++◌, IfOk, OnOk};
 
 use crate::agg::{Agg, Tops, pair_of};
 use crate::many::Many;
@@ -8,7 +8,6 @@ use sb_types::Val;
 use std::alloc::Global;
 
 /// An equal element.
-#[cycle(copy)]
 pub fn copy(alloc: Global, a: &Agg) -> Result<Agg, NoMemory>
     ensures { IfOk result (λ copied. copied ≡ a.now) }
 {
@@ -35,41 +34,40 @@ pub fn copy(alloc: Global, a: &Agg) -> Result<Agg, NoMemory>
         }
         Agg::Map(entries) => {
             let mut copied = Vec::with_capacity(alloc, entries.len())?;
-            match push_entries(alloc, entries.as_slice(), &mut copied) {
-                Ok(()) => Ok(Agg::Map(Many::from_vec(copied))),
-                Err(refused) => {
+            for entry in entries.as_slice() {
+                let part = match copy(alloc, &entry.1) {
+                    Ok(part) => part,
+                    Err(refused) => {
+                        drop(copied);
+                        return Err(refused);
+                    }
+                };
+                if let Err(refused) = push_entry(alloc, &entry.0, part, &mut copied) {
                     drop(copied);
-                    Err(refused)
+                    return Err(refused);
                 }
             }
+            Ok(Agg::Map(Many::from_vec(copied)))
         }
     }
 }
 
-// Appends equal entries. A refusal leaves some of them behind.
-#[cycle(copy)]
-fn push_entries(
+// Appends a part at an equal key.
+fn push_entry(
     alloc: Global,
-    entries: &[(Val, Agg)],
+    key: &Val,
+    part: Agg,
     out: &mut Vec<(Val, Agg)>,
 ) -> Result<(), NoMemory>
-    ensures { OnOk result (out.new.items ≡ out.old.items ++ entries.now) }
+    ensures { OnOk result (out.new.items ≡ out.old.items ++ (key.now, part) ∷ []) }
 {
-    for entry in entries {
-        out.push(copy_entry(alloc, entry)?)?;
-    }
-    Ok(())
-}
-
-#[cycle(copy)]
-fn copy_entry(alloc: Global, entry: &(Val, Agg)) -> Result<(Val, Agg), NoMemory>
-    ensures { IfOk result (λ copied. copied ≡ entry.now) }
-{
-    let key = sb_types::copy(alloc, &entry.0)?;
-    match copy(alloc, &entry.1) {
-        Ok(part) => Ok((key, part)),
+    match sb_types::copy(alloc, key) {
+        Ok(key) => {
+            out.push((key, part))?;
+            Ok(())
+        }
         Err(refused) => {
-            drop(key);
+            drop(part);
             Err(refused)
         }
     }
