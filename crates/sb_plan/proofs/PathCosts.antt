@@ -75,9 +75,15 @@ module _ (r : Logged) (services : List Rows) (lets : List (List Value)) where
   one_behind : (s : Stage) (done rest : List Path) (before after : Path) → after.root ≡ before.root → after.stages.items ≡ before.stages.items ++ s ∷ []
       → total (done ++ after ∷ []) + (total rest + stage_steps s * count rest) ≡ total done + (total (before ∷ rest) + stage_steps s * count (before ∷ rest))
   one_behind s done rest before after root stages =
-      omega (arith, total-append done (after ∷ []), sum_one (λ (p : Path). path_steps p r services lets) after, path_behind s before after root stages, total-cons before rest,
-      ap (λ k. stage_steps s * k) (length-append (path_gives r services lets before) (gives rest r services lets)),
-      mul-add (stage_steps s) (length (path_gives r services lets before)) (length (gives rest r services lets)))
+      omega (
+        arith,
+        total-append done (after ∷ []),
+        sum_one (λ (p : Path). path_steps p r services lets) after,
+        path_behind s before after root stages,
+        total-cons before rest,
+        ap (λ k. stage_steps s * k) (length-append (path_gives r services lets before) (gives rest r services lets)),
+        mul-add (stage_steps s) (length (path_gives r services lets before)) (length (gives rest r services lets)),
+      )
 
 -- paths being staged: those that are done take, with those that are left, the steps of all
 abbrev pub AreCounted : Stage → List Path → List Path → List Path → Type 0

@@ -254,14 +254,21 @@ module _ (r : Logged) (services : List Rows) where
 
       let_within : (d : Declarations) (l : Let) (stream : Stream) → Extends d c → Good d → stream_walk stream d ≡ Ok l.stream → steps_of (with_let d l) ≤ steps_of d + stream_bound stream d
       let_within d l stream on h e =
-          omega (arith, steps_of_lets_more d.lets l,
-          stream_bounded d r services (of_lets d.lets) (declared_before IsAny d c on r is_record) (rows_before IsAny d c on services are_rows) (good_lets d h) stream l.stream e)
+          omega (
+            arith,
+            steps_of_lets_more d.lets l,
+            stream_bounded d r services (of_lets d.lets) (declared_before IsAny d c on r is_record) (rows_before IsAny d c on services are_rows) (good_lets d h) stream l.stream e,
+          )
 
       store_within : (d : Declarations) (s : Store) (f : TypedFlow) (stream : Stream) → Extends d c → stream_walk stream d ≡ Ok f → s.flow ≡ f.flow → steps_of (with_store d s) ≤ steps_of d + stream_bound stream d
       store_within d s f stream on e same =
-          omega (arith, ap (sum_by (λ (steps : Steps). steps r services lets)) (map-append store_cost d.stores (s ∷ [])),
-          sum_more (λ (steps : Steps). steps r services lets) (map store_cost d.stores) (store_cost s), ap (λ f. flow_steps f r services lets) same,
-          stream_bounded d r services lets (declared_before IsAny d c on r is_record) (rows_before IsAny d c on services are_rows) (lets_before IsAny d c on lets are_lets) stream f e)
+          omega (
+            arith,
+            ap (sum_by (λ (steps : Steps). steps r services lets)) (map-append store_cost d.stores (s ∷ [])),
+            sum_more (λ (steps : Steps). steps r services lets) (map store_cost d.stores) (store_cost s),
+            ap (λ f. flow_steps f r services lets) same,
+            stream_bounded d r services lets (declared_before IsAny d c on r is_record) (rows_before IsAny d c on services are_rows) (lets_before IsAny d c on lets are_lets) stream f e,
+          )
 
       statement_within : (a : Statement) (d d' : Declarations) → Extends d c → Good d → statement_check d a ≡ Ok d' → steps_of d' ≤ steps_of d + statement_bound d a
       statement_within (statements.Source name fields) d d' on h e = let m = source_made d d' name fields e in subst (λ d'. steps_of d' ≤ steps_of d + 0) m.1 (omega arith)
@@ -301,7 +308,7 @@ record_bounded p c e services r is_record are_rows =
     let checked = statements_ok p c e in
     let good = all_good r services c.declared is_record are_rows 2 p.statements nothing tt checked in
     let least : record_steps (costs_of c) services r ≤ 0 + program_bound p =
-        all_within r services c.declared is_record are_rows (of_lets r services c.declared.lets) (good_lets r services c.declared is_record are_rows c.declared good) 2 p.statements nothing tt checked in
+    all_within r services c.declared is_record are_rows (of_lets r services c.declared.lets) (good_lets r services c.declared is_record are_rows c.declared good) 2 p.statements nothing tt checked in
     omega (arith, least)
 
 module _ (P Q : List ℕ → Type 0) (h : (t : List ℕ) → P t → Q t) (d : Declarations) where
