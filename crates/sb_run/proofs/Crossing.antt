@@ -1,4 +1,4 @@
--- What the threads of a batch share, and what they give back, may cross threads.
+-- What the threads of a batch and of a live run share, and what they give back, may cross threads.
 use mir.Syntax.{Sym}
 use denote.Param.Send.{AllSend, IsSend, IsSync, recorded_send, struct_send, sendable}
 use denote.RattleType.{RattleType}
@@ -14,7 +14,7 @@ use Rattle.sb_check.proofs.log.LogError.TheSendSync as LogError
 use Rattle.sb_job.specs.contracts.key_sums.KeySums as sums
 use Rattle.sb_job.proofs.key_sums.KeySums.TheSendSync as KeySums
 use Rattle.sb_kind.specs.contracts.agg.Agg as agg
-use Rattle.sb_kind.proofs.Crossing.{agg_send}
+use Rattle.sb_kind.proofs.Crossing.{agg_send, agg_sync}
 use Rattle.sb_check.specs.contracts.checked.Checked as checked
 use Rattle.sb_grammar.specs.contracts.programs.Program as program
 use Rattle.sb_check.specs.contracts.declarations.SourceDecl as source_decl
@@ -22,7 +22,9 @@ use Rattle.sb_check.specs.contracts.declarations.ServiceDecl as service_decl
 use Rattle.sb_check.specs.contracts.declarations.LetDecl as let_decl
 use Rattle.sb_check.specs.contracts.declarations.StoreDecl as store_decl
 use Rattle.sb_batcher.specs.contracts.batcher.Batcher as batcher
+use Rattle.sb_kind.specs.contracts.dictionary.OnlineM as online_kind
 use Rattle.sb_plan.specs.contracts.batch_runner.Runner as runner
+use Rattle.sb_plan.specs.contracts.online_runner.OnlineRunner as online_runner
 use Rattle.sb_service.specs.contracts.service.Service as service
 use Rattle.sb_grammar.proofs.expressions.CmpOp.TheSendSync as CmpOp
 use Rattle.sb_grammar.proofs.expressions.PostStep.TheSendSync as PostStep
@@ -51,6 +53,8 @@ use Rattle.sb_kind.proofs.boxed.Boxed.TheSendSync as KindBoxed
 use Rattle.sb_sketch.proofs.cms.CmsM.TheSendSync as CmsM
 use Rattle.sb_sketch.proofs.hll.HllM.TheSendSync as HllM
 use Rattle.sb_kind.proofs.kind.Kind.TheLaws.TheKnot as Kinds
+use Rattle.sb_feed.proofs.index.BatchIndex.TheSendSync as BatchIndex
+use Rattle.sb_plan.proofs.parts.Entry.TheSendSync as Entry
 use Rattle.sb_plan.proofs.stores.Stores.TheSendSync as Stores
 use Rattle.std.below.std_collections.proofs.btree.tree.Tree.TheSendSync as Tree
 use Rattle.std.proofs.collections.BTreeMap.TheSendSync as BTreeMap
@@ -78,12 +82,19 @@ store_decl_sync = search (PhantomData.the_field_sync, Option.the_field_sync, Opt
 pub checked_sync : IsSync checked.the_row
 checked_sync = search (program_sync, batcher_sync, source_decl_sync, service_decl_sync, let_decl_sync, store_decl_sync, crosses, sendable) depth 60 fits 20000
 
--- the stores, and the rows of a service
+-- the stores of a batch, and the rows of a service
 pub runner_sync : IsSync runner.the_row
 runner_sync = search (TopM.the_sync, KindBoxed.the_sync, Stores.the_sync, CmsM.the_sync, HllM.the_sync, Vec.the_sync, crosses, Kinds.crosses, sendable) depth 60 fits 20000
 
 pub service_sync : IsSync service.the_row
 service_sync = search (Option.the_field_sync, Option.the_sync, Text.the_sync, Boxed.the_sync, Items.the_sync, Tree.the_field_sync, BTreeMap.the_sync, Maps.crosses, crosses, Values.crosses, sendable) depth 60 fits 20000
+
+-- the records of a live run, and the dictionary of one of its stores
+pub commuting_sync : IsSync online_kind.the_row
+commuting_sync = search (TopM.the_sync, KindBoxed.the_sync, CmsM.the_sync, HllM.the_sync, crosses, Kinds.crosses, sendable) depth 60 fits 20000
+
+pub feed_sync : IsSync online_runner.the_row
+feed_sync = search (agg_sync, TopM.the_sync, KindBoxed.the_sync, BatchIndex.the_sync, Entry.the_sync, Stores.the_sync, CmsM.the_sync, HllM.the_sync, Vec.the_sync, crosses, Kinds.crosses, sendable) depth 60 fits 20000
 
 -- numbers and bytes
 pub number_sync : IsSync u64

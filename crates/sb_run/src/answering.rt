@@ -26,12 +26,14 @@ use sb_report::{Ask, TranscriptLine, write_line, write_row};
 use sb_session::Session;
 use sb_text::{NoMemory, Ranges, Text};
 use std::alloc::Global;
+use std::thread::Threads;
 
 // The batch for which a plain read asks.
 const LAST_BATCH: u64 = 65_535;
 
 /// Answers the asks of a run over a feed of a program, drains its session and reports, each line in one put.
-pub fn answer_all<K: Sink>(
+pub fn answer_all<R: Threads + Sync, K: Sink>(
+    rt: &R,
     alloc: Global,
     sink: &mut K,
     c: &Checked,
@@ -48,15 +50,18 @@ pub fn answer_all<K: Sink>(
         sink.new)) }
     ensures cause { HasSinkCause (K.faults sink.old) (K.faults sink.new) result }
 {
-    let mut session = session_over(alloc, feed, cut).map_err(|_| SinkError::NoMemory)?;
-    put_script(alloc, sink, c, feed, &mut session, asks)?;
+    let Ok(mut session) = session_over(alloc, feed, cut) else {
+        return Err(SinkError::NoMemory);
+    };
+    put_script(rt, alloc, sink, c, feed, &mut session, asks)?;
     put_line(alloc, sink, c, &TranscriptLine::Drained)?;
     put_report(alloc, sink, c, feed, session)?;
     put_line(alloc, sink, c, &TranscriptLine::End)
 }
 
 // Answers the asks in a session that begins.
-fn put_script<K: Sink>(
+fn put_script<R: Threads + Sync, K: Sink>(
+    rt: &R,
     alloc: Global,
     sink: &mut K,
     c: &Checked,
@@ -76,7 +81,7 @@ fn put_script<K: Sink>(
     ensures cut { OnOk result (session.new.cut ≡ session.old.cut) }
     ensures cause { HasSinkCause (K.faults sink.old) (K.faults sink.new) result }
 {
-    put_answers(alloc, sink, c, feed, session, asks)
+    put_answers(rt, alloc, sink, c, feed, session, asks)
 }
 
 fn session_over(alloc: Global, feed: &OnlineRunner, cut: Cut) -> Result<Session<Agg>, NoMemory>
@@ -88,7 +93,8 @@ fn session_over(alloc: Global, feed: &OnlineRunner, cut: Cut) -> Result<Session<
     Session::new(alloc, feed, cut)
 }
 
-fn put_answers<K: Sink>(
+fn put_answers<R: Threads + Sync, K: Sink>(
+    rt: &R,
     alloc: Global,
     sink: &mut K,
     c: &Checked,
@@ -109,12 +115,13 @@ fn put_answers<K: Sink>(
     ensures cause { HasSinkCause (K.faults sink.old) (K.faults sink.new) result }
 {
     for ask in asks {
-        put_answer(alloc, sink, c, feed, session, ask)?;
+        put_answer(rt, alloc, sink, c, feed, session, ask)?;
     }
     Ok(())
 }
 
-fn put_answer<K: Sink>(
+fn put_answer<R: Threads + Sync, K: Sink>(
+    rt: &R,
     alloc: Global,
     sink: &mut K,
     c: &Checked,
@@ -134,12 +141,13 @@ fn put_answer<K: Sink>(
     ensures cut { OnOk result (session.new.cut ≡ session.old.cut) }
     ensures cause { HasSinkCause (K.faults sink.old) (K.faults sink.new) result }
 {
-    let line = answer(alloc, c, feed, session, ask).map_err(|_| SinkError::NoMemory)?;
+    let line = answer(rt, alloc, c, feed, session, ask).map_err(|_| SinkError::NoMemory)?;
     put_line(alloc, sink, c, &line)
 }
 
 // The line of an ask.
-fn answer(
+fn answer<R: Threads + Sync>(
+    rt: &R,
     alloc: Global,
     c: &Checked,
     feed: &OnlineRunner,
@@ -164,7 +172,7 @@ fn answer(
             chunks: session.cover(alloc)?,
         }),
         Ask::Work { most } => work(alloc, c, feed, session, most),
-        Ask::Publish { upto } => publish(alloc, c, feed, session, upto),
+        Ask::Publish { upto } => publish(rt, alloc, c, feed, session, upto),
         Ask::Expire { floor } => expire(alloc, feed, session, floor),
     }
 }
@@ -308,7 +316,8 @@ fn work(
     })
 }
 
-fn publish(
+fn publish<R: Threads + Sync>(
+    rt: &R,
     alloc: Global,
     c: &Checked,
     feed: &OnlineRunner,
@@ -326,7 +335,7 @@ fn publish(
         ≡ after run.places (progress session.old) (ask.Publish upto)) }
     ensures cut { OnOk result (session.new.cut ≡ session.old.cut) }
 {
-    session.publish(alloc, feed, upto)?;
+    session.publish(rt, alloc, feed, upto)?;
     Ok(TranscriptLine::Published {
         published: session.published(),
     })

@@ -29,10 +29,12 @@ use sb_report::Ask;
 use sb_service::Service;
 use sb_words::Command;
 use std::alloc::Global;
+use std::thread::Threads;
 
 /// Does what the words of this `run` command say: it answers the asks of the script one by one, each in one line, and
 /// then writes the report. The status is that of the top call.
-pub fn run_command<H: Shelf, K: Sink>(
+pub fn run_command<R: Threads + Sync, H: Shelf, K: Sink>(
+    rt: &R,
     alloc: Global,
     command: &Command,
     shelf: &mut H,
@@ -48,7 +50,7 @@ pub fn run_command<H: Shelf, K: Sink>(
     let shards = shards_in(command);
     match load(alloc, command, shelf) {
         Ok(inputs) => {
-            let put = put_transcript(alloc, sink, chunk, shards, inputs);
+            let put = put_transcript(rt, alloc, sink, chunk, shards, inputs);
             status_of(sink, put)
         }
         Err(refusal) => put_refusal(sink, &refusal),
@@ -79,7 +81,8 @@ fn shards_in(command: &Command) -> u32
     }
 }
 
-fn put_transcript<K: Sink>(
+fn put_transcript<R: Threads + Sync, K: Sink>(
+    rt: &R,
     alloc: Global,
     sink: &mut K,
     chunk: u64,
@@ -108,6 +111,7 @@ fn put_transcript<K: Sink>(
     match program {
         Loaded::Online(program) => {
             answer_script(
+                rt,
                 alloc,
                 sink,
                 &program,
@@ -122,7 +126,8 @@ fn put_transcript<K: Sink>(
     }
 }
 
-fn answer_script<K: Sink>(
+fn answer_script<R: Threads + Sync, K: Sink>(
+    rt: &R,
     alloc: Global,
     sink: &mut K,
     program: &Online,
@@ -153,5 +158,5 @@ fn answer_script<K: Sink>(
     let Some(cut) = Cut::new(feed.len(), chunk, shards) else {
         unreachable!()
     };
-    answer_all(alloc, sink, program.checked(), &feed, cut, asks)
+    answer_all(rt, alloc, sink, program.checked(), &feed, cut, asks)
 }

@@ -25,7 +25,7 @@ ghost use Rattle.sb_types.specs.ValView.{value_of};
 
 use sb_check::{Checked, LogError};
 use sb_feed::{Family, KeyBytes, RowList};
-use sb_job::KeySums;
+use sb_job::{KeySums, halvings};
 use sb_kind::Agg;
 use sb_log::{Piece, Records};
 use sb_plan::{Plan, Runner, plan_of};
@@ -33,7 +33,7 @@ use sb_service::Service;
 use sb_text::{NoMemory, Text};
 use sb_types::{LogRecord, Val};
 use std::alloc::Global;
-use std::thread::{Threads, available_parallelism, join};
+use std::thread::{Threads, join};
 
 /// The sum of each key of each store over the log of a text. The log is folded while it is read, in as many pieces as there
 /// are processors.
@@ -100,23 +100,6 @@ fn add_text<R: Threads + Sync>(
         bytes,
         halvings(rt),
     )
-}
-
-// How often a log is halved, so that each processor has a part of it: at most 6 times, and not where their number isn't known.
-fn halvings<R: Threads>(rt: &R) -> u32 {
-    let processors = match available_parallelism(rt) {
-        Ok(number) => number.get(),
-        Err(_) => 1,
-    };
-    match processors {
-        0 | 1 => 0,
-        2 => 1,
-        3..=4 => 2,
-        5..=8 => 3,
-        9..=16 => 4,
-        17..=32 => 5,
-        _ => 6,
-    }
 }
 
 // Adds the lines of a piece, halved so often: those of the first half and of the second side by side, and then the sums of the

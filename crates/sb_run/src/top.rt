@@ -69,7 +69,7 @@ fn carry_out<R: Threads + Sync, H: Shelf, K: Sink>(
     match command {
         Command::Check { .. } => check_command(alloc, command, shelf, sink),
         Command::Batch { .. } => batch_command(rt, alloc, command, shelf, sink),
-        _ => run_command(alloc, command, shelf, sink),
+        _ => run_command(rt, alloc, command, shelf, sink),
     }
 }
 

@@ -1,4 +1,4 @@
-use Rattle.std.proofs.Common.{◌∙◌, length, map, sym, ap, subst}
+use Rattle.std.proofs.Common.{◌∙◌, length, map, rules, sym, ap, subst}
 use Rattle.std.specs.List.{AllByRecursion}
 use Rattle.sb_check.specs.OnlineView.{online_of}
 use Rattle.sb_load.specs.Steps.{records_of}
@@ -17,14 +17,8 @@ answer_all-requires g c κs within =
     let feed = c.in-Ok.feed in
     let cut = c.in-Some.cut in
     let cut_is = c.in-Some.ensures.cut in
-    let run_is = ap (λ x. run_of said x.chunk x.shards log services) cut_is ∙ sym c.requires.1.0 in
-    let base = serves said log services feed c.in-Ok.ensures cut in (
-      within,
-      (
-        subst (λ q. Serves q feed cut g.run) (sym c.checked.ensures.value) (subst (λ r. Serves said feed cut r) run_is base),
-        (
-          ap (λ x. x.records) cut_is ∙ c.len.ensures.len,
-          subst (λ q. AllByRecursion (AsksOf (length q.declared.stores)) c.args.asks.items) (sym c.checked.ensures.value) c.requires.1.1.1.1.1.1.1,
-        ),
-      ),
-    )
+    let run_is = ap (λ x. run_of said x.chunk x.shards log services) cut_is ∙ sym c.requires.1.1.1.0 in
+    let base = serves said log services feed c.in-Ok.ensures cut in
+    let is_served = subst (λ q. Serves q feed cut g.run) (sym c.checked.ensures.value) (subst (λ r. Serves said feed cut r) run_is base) in
+    let stores = subst (λ q. AllByRecursion (AsksOf (length q.declared.stores)) c.args.asks.items) (sym c.checked.ensures.value) c.requires.1.1.1.1.1.1.1.1.1 in
+    (within.0, (within.1, (search rules parts 8, (is_served, (ap (λ x. x.records) cut_is ∙ c.len.ensures.len, stores)))))
