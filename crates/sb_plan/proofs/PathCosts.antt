@@ -28,7 +28,7 @@ module _ {A : Type 0} where
   sum_none [] = refl
   sum_none (x ∷ xs) = sum_by-cons (λ (x : A). 0) x xs ∙ omega (arith, sum_none xs)
 
-  sum_same : (f g : A → ℕ) (xs : List A) → ((x : A) → f x ≡ g x) → sum_by f xs ≡ sum_by g xs
+  pub sum_same : (f g : A → ℕ) (xs : List A) → ((x : A) → f x ≡ g x) → sum_by f xs ≡ sum_by g xs
   sum_same f g [] h = refl
   sum_same f g (x ∷ xs) h = sum_by-cons f x xs ∙ (omega (arith, h x, sum_same f g xs h) ∙ sym (sum_by-cons g x xs))
 
@@ -36,7 +36,7 @@ module _ {A : Type 0} where
   sum_one f x = omega arith
 
 -- with so many more for each value that comes out
-sum_behind : {A B : Type 0} (f : A → ℕ) (g : A → List B) (n : ℕ) (xs : List A) → sum_by (λ x. f x + n * length (g x)) xs ≡ sum_by f xs + n * length (flat_map g xs)
+pub sum_behind : {A B : Type 0} (f : A → ℕ) (g : A → List B) (n : ℕ) (xs : List A) → sum_by (λ x. f x + n * length (g x)) xs ≡ sum_by f xs + n * length (flat_map g xs)
 sum_behind f g n [] = omega arith
 sum_behind {A} f g n (x ∷ xs) =
     sum_by-cons (λ (x : A). f x + n * length (g x)) x xs
@@ -75,9 +75,15 @@ module _ (r : Logged) (services : List Rows) (lets : List (List Value)) where
   one_behind : (s : Stage) (done rest : List Path) (before after : Path) → after.root ≡ before.root → after.stages.items ≡ before.stages.items ++ s ∷ []
       → total (done ++ after ∷ []) + (total rest + stage_steps s * count rest) ≡ total done + (total (before ∷ rest) + stage_steps s * count (before ∷ rest))
   one_behind s done rest before after root stages =
-      omega (arith, total-append done (after ∷ []), sum_one (λ (p : Path). path_steps p r services lets) after, path_behind s before after root stages, total-cons before rest,
-      ap (λ k. stage_steps s * k) (length-append (path_gives r services lets before) (gives rest r services lets)),
-      mul-add (stage_steps s) (length (path_gives r services lets before)) (length (gives rest r services lets)))
+      omega (
+        arith,
+        total-append done (after ∷ []),
+        sum_one (λ (p : Path). path_steps p r services lets) after,
+        path_behind s before after root stages,
+        total-cons before rest,
+        ap (λ k. stage_steps s * k) (length-append (path_gives r services lets before) (gives rest r services lets)),
+        mul-add (stage_steps s) (length (path_gives r services lets before)) (length (gives rest r services lets)),
+      )
 
 -- paths being staged: those that are done take, with those that are left, the steps of all
 abbrev pub AreCounted : Stage → List Path → List Path → List Path → Type 0

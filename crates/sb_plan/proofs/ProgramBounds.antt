@@ -1,9 +1,9 @@
 -- A record takes at most as many steps as the widths that enter the stages of a program's text come to.
-use Rattle.std.proofs.Common.{◌≡◌, ◌≤◌, ◌∙◌, ℕ, zero, suc, ◌+◌, true, false, cond, List, [], ◌∷◌, ◌++◌, map, length, Option, Some, None, refl, sym, ap, subst, arith, IsUtf8}
+use Rattle.std.proofs.Common.{◌≡◌, ◌≤◌, ◌∙◌, ℕ, zero, suc, ◌+◌, ◌*◌, true, false, cond, List, [], ◌∷◌, ◌++◌, map, length, Option, Some, None, refl, sym, ap, subst, arith, suc-mul, IsUtf8}
 use Rattle.std.specs.Prelude.{Result, Ok, Err, IfSome, slice_get}
 use Rattle.std.specs.List.{AllByRecursion, sum_by}
 use Rattle.std.proofs.lemmas.List.{map-append}
-use Rattle.std.proofs.lemmas.List.Sums.{sum_by-append}
+use Rattle.std.proofs.lemmas.List.Sums.{sum_by-append, sum_by-cons}
 use Rattle.sb_types.specs.Value.{Value}
 use Rattle.sb_types.specs.ValueType.{ValueType, records}
 use Rattle.sb_kind.specs.Monoids.{Monoid}
@@ -254,14 +254,21 @@ module _ (r : Logged) (services : List Rows) where
 
       let_within : (d : Declarations) (l : Let) (stream : Stream) → Extends d c → Good d → stream_walk stream d ≡ Ok l.stream → steps_of (with_let d l) ≤ steps_of d + stream_bound stream d
       let_within d l stream on h e =
-          omega (arith, steps_of_lets_more d.lets l,
-          stream_bounded d r services (of_lets d.lets) (declared_before IsAny d c on r is_record) (rows_before IsAny d c on services are_rows) (good_lets d h) stream l.stream e)
+          omega (
+            arith,
+            steps_of_lets_more d.lets l,
+            stream_bounded d r services (of_lets d.lets) (declared_before IsAny d c on r is_record) (rows_before IsAny d c on services are_rows) (good_lets d h) stream l.stream e,
+          )
 
       store_within : (d : Declarations) (s : Store) (f : TypedFlow) (stream : Stream) → Extends d c → stream_walk stream d ≡ Ok f → s.flow ≡ f.flow → steps_of (with_store d s) ≤ steps_of d + stream_bound stream d
       store_within d s f stream on e same =
-          omega (arith, ap (sum_by (λ (steps : Steps). steps r services lets)) (map-append store_cost d.stores (s ∷ [])),
-          sum_more (λ (steps : Steps). steps r services lets) (map store_cost d.stores) (store_cost s), ap (λ f. flow_steps f r services lets) same,
-          stream_bounded d r services lets (declared_before IsAny d c on r is_record) (rows_before IsAny d c on services are_rows) (lets_before IsAny d c on lets are_lets) stream f e)
+          omega (
+            arith,
+            ap (sum_by (λ (steps : Steps). steps r services lets)) (map-append store_cost d.stores (s ∷ [])),
+            sum_more (λ (steps : Steps). steps r services lets) (map store_cost d.stores) (store_cost s),
+            ap (λ f. flow_steps f r services lets) same,
+            stream_bounded d r services lets (declared_before IsAny d c on r is_record) (rows_before IsAny d c on services are_rows) (lets_before IsAny d c on lets are_lets) stream f e,
+          )
 
       statement_within : (a : Statement) (d d' : Declarations) → Extends d c → Good d → statement_check d a ≡ Ok d' → steps_of d' ≤ steps_of d + statement_bound d a
       statement_within (statements.Source name fields) d d' on h e = let m = source_made d d' name fields e in subst (λ d'. steps_of d' ≤ steps_of d + 0) m.1 (omega arith)
@@ -301,7 +308,7 @@ record_bounded p c e services r is_record are_rows =
     let checked = statements_ok p c e in
     let good = all_good r services c.declared is_record are_rows 2 p.statements nothing tt checked in
     let least : record_steps (costs_of c) services r ≤ 0 + program_bound p =
-        all_within r services c.declared is_record are_rows (of_lets r services c.declared.lets) (good_lets r services c.declared is_record are_rows c.declared good) 2 p.statements nothing tt checked in
+    all_within r services c.declared is_record are_rows (of_lets r services c.declared.lets) (good_lets r services c.declared is_record are_rows c.declared good) 2 p.statements nothing tt checked in
     omega (arith, least)
 
 module _ (P Q : List ℕ → Type 0) (h : (t : List ℕ) → P t → Q t) (d : Declarations) where
@@ -319,3 +326,10 @@ module _ (P Q : List ℕ → Type 0) (h : (t : List ℕ) → P t → Q t) (d : D
 pub costs_within : (c : CheckedProgram) → AreWithin (costs_of c) c
 costs_within c e services r is_record are_rows =
     record_bounded c.program c e services r (declared_weaker IsUtf8 IsAny (λ t is. tt) c.declared r is_record) (rows_weaker IsUtf8 IsAny (λ t is. tt) c.declared services are_rows)
+
+-- and those of a log within as many times it as there are records
+pub log_within : (c : CheckedProgram) (services : List Rows) (log : List Logged) → check_of c.program ≡ Ok c → AllByRecursion (IsDeclared IsUtf8 c.declared) log → AreRowsOf IsUtf8 c.declared services
+    → sum_by (record_steps (costs_of c) services) log ≤ length log * program_bound c.program
+log_within c services [] e are are_rows = omega arith
+log_within c services (r ∷ log) e are are_rows =
+    omega (arith, sum_by-cons (record_steps (costs_of c) services) r log, costs_within c e services r are.0 are_rows, log_within c services log e are.1 are_rows, suc-mul (length log) (program_bound c.program))

@@ -74,8 +74,12 @@ module _ (d : Declarations) (r : Logged) (services : List Rows) (lets : List (Li
   stages_within [] s f h is = let same : s ≡ f = cc in omega (arith, ap (λ (f : TypedFlow). steps f.flow) same)
   stages_within (stage ∷ stages) s f h is =
       let x = then_ok (stage_walk d stage s) (stages_walk d stages) f is in
-      omega (arith, stage_within stage s x.0 h x.1, ap (if_ok (stages_bound d stages)) x.1,
-      stages_within stages x.0 f (stage_holds IsAny any_kept d r services lets is_record are_rows are_lets stage s x.0 h x.1) x.2)
+      omega (
+        arith,
+        stage_within stage s x.0 h x.1,
+        ap (if_ok (stages_bound d stages)) x.1,
+        stages_within stages x.0 f (stage_holds IsAny any_kept d r services lets is_record are_rows are_lets stage s x.0 h x.1) x.2,
+      )
 
   abbrev head_pair : Head → Bounded
   head_pair = fold-Head Bounded Bounded head_bounds stream_bounds
@@ -108,17 +112,28 @@ module _ (d : Declarations) (r : Logged) (services : List Rows) (lets : List (Li
       (subst (Within (stream_layer (map-Stream Head Stream Walk Walk head_walk stream_walk l))) (sym (fold-roll-Stream Bounded Bounded head_bounds stream_bounds l)) h)
 
   merged_within : (a b : Stream) → OfStream a → OfStream b → Within (head_layer (Head-F.Merge (stream_walk a) (stream_walk b))) (head_bounds (Head-F.Merge (stream_pair a) (stream_pair b)))
-  merged_within a b h k = (ap₂ (λ x y. head_layer (Head-F.Merge x y)) h.0 k.0, λ f is.
-      let x = then_ok (stream_walk a d) (λ x. and_then (stream_walk b d) (merge_node x)) f is in
-      let y = then_ok (stream_walk b d) (merge_node x.0) f x.2 in
-      let z = flow_node_ok (flow.Merge x.0.flow y.0.flow) (x.0.width + y.0.width) (joined x.0.type y.0.type) f y.2 in
-      omega (arith, node_steps (flow.Merge x.0.flow y.0.flow) (x.0.width + y.0.width) z.0 f z.2, steps-Merge r services lets x.0.flow y.0.flow, h.1 x.0 x.1, k.1 y.0 y.1))
+  merged_within a b h k = (
+    ap₂ (λ x y. head_layer (Head-F.Merge x y)) h.0 k.0,
+    λ f is.
+        let x = then_ok (stream_walk a d) (λ x. and_then (stream_walk b d) (merge_node x)) f is in
+        let y = then_ok (stream_walk b d) (merge_node x.0) f x.2 in
+        let z = flow_node_ok (flow.Merge x.0.flow y.0.flow) (x.0.width + y.0.width) (joined x.0.type y.0.type) f y.2 in
+        omega (arith, node_steps (flow.Merge x.0.flow y.0.flow) (x.0.width + y.0.width) z.0 f z.2, steps-Merge r services lets x.0.flow y.0.flow, h.1 x.0 x.1, k.1 y.0 y.1),
+  )
 
   behind_within : (a : Head) (stages : List Stage) → OfHead a → Within (λ d. and_then (head_walk a d) (stages_walk d stages)) (stream_bounds (record { head = head_pair a; stages = stages }))
-  behind_within a stages h = (ap (λ w d. and_then (w d) (stages_walk d stages)) h.0, λ f is.
-      let x = then_ok (head_walk a d) (stages_walk d stages) f is in
-      omega (arith, h.1 x.0 x.1, ap (λ (w : Walk). if_ok (stages_bound d stages) (w d)) h.0, ap (if_ok (stages_bound d stages)) x.1,
-      stages_within stages x.0 f (head_sound IsAny any_kept d r services lets is_record are_rows are_lets a x.0 x.1) x.2))
+  behind_within a stages h = (
+    ap (λ w d. and_then (w d) (stages_walk d stages)) h.0,
+    λ f is.
+        let x = then_ok (head_walk a d) (stages_walk d stages) f is in
+        omega (
+          arith,
+          h.1 x.0 x.1,
+          ap (λ (w : Walk). if_ok (stages_bound d stages) (w d)) h.0,
+          ap (if_ok (stages_bound d stages)) x.1,
+          stages_within stages x.0 f (head_sound IsAny any_kept d r services lets is_record are_rows are_lets a x.0 x.1) x.2,
+        ),
+  )
 
   head_case : (y : Head-F Head-is Stream-is) → OfHead (roll-Head (map-Head Head-is Stream-is Head Stream (λ e. e.0) (λ e. e.0) y))
   head_case (Head-F.Name name) = roll_head (Head-F.Name name) (refl, λ f is. omega (arith, named_steps r services lets (source_named d name) (let_named d name) f (known_ok (stream_named d name) f is)))

@@ -161,9 +161,10 @@ module _ (P : List ℕ → Type 0) (keeps : KeepsTexts P) where
         subst Holds x.2 (λ has.
         let both : AllByRecursion P (flow_texts s.flow ++ texts_in e.term) = subst (AllByRecursion P) (flow_texts-Map s.flow e.term) has in
         let before = h (all_left P (flow_texts s.flow) (texts_in e.term) both) in
-        subst (AreGiven x.0 s.width) (sym (given-Map r services lets s.flow e.term))
-        (all_map (Is s.type) (Is x.0) (ev e.term) (λ v is. subst (λ t. Is t (ev e.term v)) same (k (all_right P (flow_texts s.flow) (texts_in e.term) both) v is)) (gives s.flow) before.0,
-        omega (arith, before.1, length-map (gives s.flow) (ev e.term))))
+        subst (AreGiven x.0 s.width) (sym (given-Map r services lets s.flow e.term)) (
+          all_map (Is s.type) (Is x.0) (ev e.term) (λ v is. subst (λ t. Is t (ev e.term v)) same (k (all_right P (flow_texts s.flow) (texts_in e.term) both) v is)) (gives s.flow) before.0,
+          omega (arith, before.1, length-map (gives s.flow) (ev e.term)),
+        ))
 
     filter_holds : (s f : TypedFlow) (e : TypedTerm) → Holds s → filter_node s e ≡ Ok f → Holds f
     filter_holds s f e h is =
@@ -171,9 +172,10 @@ module _ (P : List ℕ → Type 0) (keeps : KeepsTexts P) where
         subst Holds x.2 (λ has.
         let both : AllByRecursion P (flow_texts s.flow ++ texts_in e.term) = subst (AllByRecursion P) (flow_texts-Filter s.flow e.term) has in
         let before = h (all_left P (flow_texts s.flow) (texts_in e.term) both) in
-        subst (AreGiven x.0 s.width) (sym (given-Filter r services lets s.flow e.term))
-        (subst (λ t. AllByRecursion (Is t) (filter (is_true e.term) (gives s.flow))) (filtered_as s.type e.type x.0 x.1) (all_filter (Is s.type) (is_true e.term) (gives s.flow) before.0),
-        omega (arith, before.1, length-filter-le (is_true e.term) (gives s.flow))))
+        subst (AreGiven x.0 s.width) (sym (given-Filter r services lets s.flow e.term)) (
+          subst (λ t. AllByRecursion (Is t) (filter (is_true e.term) (gives s.flow))) (filtered_as s.type e.type x.0 x.1) (all_filter (Is s.type) (is_true e.term) (gives s.flow) before.0),
+          omega (arith, before.1, length-filter-le (is_true e.term) (gives s.flow)),
+        ))
 
     list_elements : (t : ValueType) (most : ℕ) (v : Value) → Is (lists t most) v → AreGiven t most (elements_in v)
     list_elements t most v is = rw is.1 (is.2, is.3)
@@ -186,16 +188,21 @@ module _ (P : List ℕ → Type 0) (keeps : KeepsTexts P) where
         let both : AllByRecursion P (flow_texts s.flow ++ texts_in e.term) = subst (AllByRecursion P) (flow_texts-FlatMap s.flow e.term) has in
         let before = h (all_left P (flow_texts s.flow) (texts_in e.term) both) in
         let each : (v : Value) → Is s.type v → AreGiven x.0.0 x.0.1 (elements_in (ev e.term v)) = λ v is.
-            list_elements x.0.0 x.0.1 (ev e.term v) (subst (λ t. Is t (ev e.term v)) as_list (k (all_right P (flow_texts s.flow) (texts_in e.term) both) v is)) in
-        subst (AreGiven x.0.0 (s.width * x.0.1)) (sym (given-FlatMap r services lets s.flow e.term))
-        (all_flat (Is s.type) (Is x.0.0) (λ v. elements_in (ev e.term v)) (λ v is. (each v is).0) (gives s.flow) before.0,
-        omega (arith, length_flat (Is s.type) (Is x.0.0) (λ v. elements_in (ev e.term v)) x.0.1 (λ v is. (each v is).1) (gives s.flow) before.0, mul-le-mul_right x.0.1 before.1)))
+        list_elements x.0.0 x.0.1 (ev e.term v) (subst (λ t. Is t (ev e.term v)) as_list (k (all_right P (flow_texts s.flow) (texts_in e.term) both) v is)) in
+        subst (AreGiven x.0.0 (s.width * x.0.1)) (sym (given-FlatMap r services lets s.flow e.term)) (
+          all_flat (Is s.type) (Is x.0.0) (λ v. elements_in (ev e.term v)) (λ v is. (each v is).0) (gives s.flow) before.0,
+          omega (arith, length_flat (Is s.type) (Is x.0.0) (λ v. elements_in (ev e.term v)) x.0.1 (λ v is. (each v is).1) (gives s.flow) before.0, mul-le-mul_right x.0.1 before.1),
+        ))
 
     joins_with : (n : ℕ) (s : Service) (k v : ValueType) → slice_get d.services n ≡ Some s → (x : Value) → Is (pairs k v) x → Is (pairs k (pairs v (options s.value))) (join_with (list_at n services) x)
     joins_with n s k v e x is =
-        let rows = if_some (λ s. AllByRecursion (λ row. Is s.key row.0 × Is s.value row.1) (list_at n services)) (slice_get d.services n) s e (are_rows n) in
-        (first_in x, pair (second_in x) (option_value (row_of (first_in x) (list_at n services))), refl, rw is.2 is.3,
-        (second_in x, option_value (row_of (first_in x) (list_at n services)), refl, rw is.2 is.4, looked_up s.value _ (list_at n services) (row_values s (list_at n services) rows)))
+        let rows = if_some (λ s. AllByRecursion (λ row. Is s.key row.0 × Is s.value row.1) (list_at n services)) (slice_get d.services n) s e (are_rows n) in (
+          first_in x,
+          pair (second_in x) (option_value (row_of (first_in x) (list_at n services))),
+          refl,
+          rw is.2 is.3,
+          (second_in x, option_value (row_of (first_in x) (list_at n services)), refl, rw is.2 is.4, looked_up s.value _ (list_at n services) (row_values s (list_at n services) rows)),
+        )
 
     join_holds : (s f : TypedFlow) (service : ℕ × Service) → slice_get d.services service.0 ≡ Some service.1 → Holds s → join_node s service ≡ Ok f → Holds f
     join_holds s f service at_service h is =
@@ -203,10 +210,11 @@ module _ (P : List ℕ → Type 0) (keeps : KeepsTexts P) where
         let t = join_as service.1 s.type x.0 x.1 in
         subst Holds x.2 (λ has.
         let before = h (subst (AllByRecursion P) (flow_texts-Join s.flow service.0) has) in
-        subst (AreGiven x.0 s.width) (sym (given-Join r services lets s.flow service.0))
-        (all_map (Is s.type) (Is x.0) (join_with (list_at service.0 services))
-        (λ v is. subst (λ t. Is t (join_with (list_at service.0 services) v)) t.3 (joins_with service.0 service.1 t.0 t.1 at_service v (subst (λ t. Is t v) t.2 is))) (gives s.flow) before.0,
-        omega (arith, before.1, length-map (gives s.flow) (join_with (list_at service.0 services)))))
+        subst (AreGiven x.0 s.width) (sym (given-Join r services lets s.flow service.0)) (
+          all_map (Is s.type) (Is x.0) (join_with (list_at service.0 services))
+              (λ v is. subst (λ t. Is t (join_with (list_at service.0 services) v)) t.3 (joins_with service.0 service.1 t.0 t.1 at_service v (subst (λ t. Is t v) t.2 is))) (gives s.flow) before.0,
+          omega (arith, before.1, length-map (gives s.flow) (join_with (list_at service.0 services))),
+        ))
 
     merge_holds : (a b f : TypedFlow) → Holds a → Holds b → merge_node a b ≡ Ok f → Holds f
     merge_holds a b f h k is =
@@ -216,9 +224,10 @@ module _ (P : List ℕ → Type 0) (keeps : KeepsTexts P) where
         let both : AllByRecursion P (flow_texts a.flow ++ flow_texts b.flow) = subst (AllByRecursion P) (flow_texts-Merge a.flow b.flow) has in
         let left = h (all_left P (flow_texts a.flow) (flow_texts b.flow) both) in
         let right = k (all_right P (flow_texts a.flow) (flow_texts b.flow) both) in
-        subst (AreGiven x.0 (a.width + b.width)) (sym (given-Merge r services lets a.flow b.flow))
-        (all_append (Is x.0) (gives a.flow) (gives b.flow) (all_covered P x.0 a.type covers.0 (gives a.flow) left.0) (all_covered P x.0 b.type covers.1 (gives b.flow) right.0),
-        omega (arith, left.1, right.1, length-append (gives a.flow) (gives b.flow))))
+        subst (AreGiven x.0 (a.width + b.width)) (sym (given-Merge r services lets a.flow b.flow)) (
+          all_append (Is x.0) (gives a.flow) (gives b.flow) (all_covered P x.0 a.type covers.0 (gives a.flow) left.0) (all_covered P x.0 b.type covers.1 (gives b.flow) right.0),
+          omega (arith, left.1, right.1, length-append (gives a.flow) (gives b.flow)),
+        ))
 
     pub stage_holds : (stage : Stage) (s f : TypedFlow) → Holds s → stage_walk d stage s ≡ Ok f → Holds f
     stage_holds (staged.Map e) s f h is =

@@ -1,10 +1,11 @@
-use Rattle.std.proofs.Common.{◌≡◌, ◌++◌, ◌∙◌, ap, sym, subst, map}
+use Rattle.std.proofs.Common.{◌≡◌, ◌+◌, ◌++◌, ◌∙◌, ap, sym, subst, map}
 use Rattle.std.specs.Prelude.{OnOk}
-use Rattle.std.specs.List.{flat_map}
+use Rattle.std.specs.List.{flat_map, sum_by}
 use Rattle.sb_meaning.specs.Expression.{ev}
 use Rattle.sb_meaning.specs.Its.{it_value}
 use Rattle.sb_meaning.specs.Operations.{elements_in}
 use Rattle.sb_plan.specs.Paths.{chain_gives}
+use Rattle.sb_plan.specs.PathSteps.{run_steps}
 use Rattle.sb_service.specs.Views.{view_service}
 use Rattle.sb_plan.proofs.Gives.{ev_parts}
 use Rattle.sb_plan.proofs.running.+run.Goals as goal
@@ -15,3 +16,10 @@ run_elements-returns-in-List-clause-made g t c =
     subst
     (λ vs. OnOk c.run_parts.result (c.run_parts.new.out.items ≡ c.args.out.now.items ++ map (g.M.Maker.made c.args.maker.now) (flat_map (chain_gives (map view_service c.args.services.now) c.args.stages.now) vs)))
     (ap (map (λ e. ev e v)) c.as_slice.ensures ∙ sym (ap (λ e. elements_in (ev e v)) c.in-List.is ∙ ev_parts c.in-List.parts v)) c.run_parts.ensures.made
+
+pub run_elements-returns-in-List-clause-steps : goal.run_elements-returns-in-List-clause-steps
+run_elements-returns-in-List-clause-steps g t c =
+    let v = it_value c.args.it in
+    subst
+    (λ vs. OnOk c.run_parts.result (c.run_parts.new.steps ≡ c.args.steps.now + sum_by (run_steps (g.M.Maker.takes c.args.maker.now) (map view_service c.args.services.now) c.args.stages.now) vs))
+    (ap (map (λ e. ev e v)) c.as_slice.ensures ∙ sym (ap (λ e. elements_in (ev e v)) c.in-List.is ∙ ev_parts c.in-List.parts v)) c.run_parts.ensures.steps
