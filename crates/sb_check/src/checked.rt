@@ -76,12 +76,23 @@ impl Checked {
             ≡ option_map (λ s. s.name) (slice_get (checked_of self).declared.stores at) }
     {
         let Checked {
-            program: _,
+            program,
             batcher: _,
             declared,
         } = self;
-        let mut stores = declared.stores;
-        stores.remove(at).name
+        drop(program);
+        let Declared {
+            sources,
+            services,
+            lets,
+            mut stores,
+        } = declared;
+        drop(sources);
+        drop(services);
+        drop(lets);
+        let store = stores.remove(at);
+        drop(stores);
+        store.into_name()
     }
 }
 
@@ -92,14 +103,20 @@ pub fn check(alloc: Global, p: Program) -> Result<Checked, CheckError>
     ensures { Answers NoMemory checked_of (spec.check_of p) result }
 {
     let Some(batcher) = batcher_of(&p) else {
+        drop(p);
         return Err(CheckError::Mistyped { statement: 1 });
     };
-    let declared = statements(alloc, p.statements.as_slice())?;
-    Ok(Checked {
-        program: p,
-        batcher,
-        declared,
-    })
+    match statements(alloc, p.statements.as_slice()) {
+        Ok(declared) => Ok(Checked {
+            program: p,
+            batcher,
+            declared,
+        }),
+        Err(error) => {
+            drop(p);
+            Err(error)
+        }
+    }
 }
 
 fn batcher_of(p: &Program) -> Option<Batcher>

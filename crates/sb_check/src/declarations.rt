@@ -55,6 +55,28 @@ pub struct StoreDecl {
     ghost spelled: { text.items ≡ monoid_text (monoid_of kind) },
 }
 
+impl StoreDecl {
+    /// Its name, moved out; the rest is dropped.
+    pub(crate) fn into_name(self) -> Text
+        ensures { result ≡ self.name }
+    {
+        let StoreDecl {
+            name,
+            key,
+            value,
+            kind,
+            flow,
+            text,
+        } = self;
+        drop(key);
+        drop(value);
+        drop(kind);
+        drop(flow);
+        drop(text);
+        name
+    }
+}
+
 /// What the statements so far declare, each kind in the program's order.
 #[derive(Drop)]
 pub struct Declared {

@@ -54,8 +54,13 @@ pub fn mono(alloc: Global, tree: &MonoTree, value: &Ty) -> Result<Mono, Fault>
         MonoTree::Pair(left, right) => match value {
             Ty::Pair(first, second) => {
                 let left = mono(alloc, left.get(), first.get())?;
-                let right = mono(alloc, right.get(), second.get())?;
-                Ok(pair(alloc, left, right)?)
+                match mono(alloc, right.get(), second.get()) {
+                    Ok(right) => Ok(pair(alloc, left, right)?),
+                    Err(fault) => {
+                        drop(left);
+                        Err(fault)
+                    }
+                }
             }
             _ => Err(Fault::Mistyped),
         },
@@ -165,9 +170,20 @@ fn is_text(ty: &Ty) -> bool
 fn pair(alloc: Global, left: Mono, right: Mono) -> Result<Mono, NoMemory>
     ensures { IfOk result (λ mono. monoid_in mono ≡ pairs (monoid_in left) (monoid_in right)) }
 {
-    let left = Boxed::new(alloc, left)?;
-    let right = Boxed::new(alloc, right)?;
-    Ok(Mono::Pair(left, right))
+    let left = match Boxed::new(alloc, left) {
+        Ok(left) => left,
+        Err(refused) => {
+            drop(right);
+            return Err(refused);
+        }
+    };
+    match Boxed::new(alloc, right) {
+        Ok(right) => Ok(Mono::Pair(left, right)),
+        Err(refused) => {
+            drop(left);
+            Err(refused)
+        }
+    }
 }
 
 /// Writes the monoid's tokens at the end of `out`, each with a space behind it. After a refusal a part may be written.

@@ -171,8 +171,13 @@ fn let_of(alloc: Global, name: &Text, stream: Streamed) -> Result<LetDecl, NoMem
     ensures { IfOk result (λ bound. decl.let_of bound
         ≡ record { name = name.now; stream = streamed_of stream }) }
 {
-    let name = name.copy(alloc)?;
-    Ok(LetDecl { name, stream })
+    match name.copy(alloc) {
+        Ok(name) => Ok(LetDecl { name, stream }),
+        Err(refused) => {
+            drop(stream);
+            Err(refused)
+        }
+    }
 }
 
 fn store(
@@ -204,10 +209,15 @@ fn store_over(
     ensures { Tells store_of (spec.store_over name.now tree.now (streamed_of stream)) result }
 {
     let Streamed { flow, ty, width: _ } = stream;
-    match &ty {
+    let made = match &ty {
         Ty::Pair(key, value) => fed(alloc, name, tree, flow, key.get(), value.get()),
-        _ => Err(Fault::Mistyped),
-    }
+        _ => {
+            drop(flow);
+            Err(Fault::Mistyped)
+        }
+    };
+    drop(ty);
+    made
 }
 
 // The store that this flow of keys and values feeds.
@@ -223,11 +233,22 @@ fn fed(
         (spec.fed name.now tree.now flow (type_of key.now) (type_of value.now)) result }
 {
     if !is_key_type(key) {
+        drop(flow);
         return Err(Fault::NotAKey);
     }
-    let mono = mono(alloc, tree, value)?;
-    let store = summing(alloc, name, &mono, flow, key, value)?;
-    Ok(store)
+    let mono = match mono(alloc, tree, value) {
+        Ok(mono) => mono,
+        Err(fault) => {
+            drop(flow);
+            return Err(fault);
+        }
+    };
+    let store = summing(alloc, name, &mono, flow, key, value);
+    drop(mono);
+    match store {
+        Ok(store) => Ok(store),
+        Err(_) => Err(Fault::NoMemory),
+    }
 }
 
 // The store of this monoid.
@@ -287,8 +308,13 @@ fn types_of(alloc: Global, key: &Ty, value: &Ty) -> Result<(Ty, Ty), NoMemory>
     ensures { IfOk result (λ types. (types.0 ≡ key.now) × (types.1 ≡ value.now)) }
 {
     let key = copy(alloc, key)?;
-    let value = copy(alloc, value)?;
-    Ok((key, value))
+    match copy(alloc, value) {
+        Ok(value) => Ok((key, value)),
+        Err(refused) => {
+            drop(key);
+            Err(refused)
+        }
+    }
 }
 
 fn store_of_all(name: Text, types: (Ty, Ty), made: (Kind, Vec<u8>), flow: Flow) -> StoreDecl

@@ -42,7 +42,11 @@ fn flow_sized(flow: Flow, width: u64, ty: Ty) -> Result<Streamed, Fault>
     ensures { Tells streamed_of (spec.flow_sized flow width (type_of ty)) result }
 {
     match size_fault(width, &ty) {
-        Some(fault) => Err(fault),
+        Some(fault) => {
+            drop(flow);
+            drop(ty);
+            Err(fault)
+        }
         None => Ok(Streamed { flow, ty, width }),
     }
 }
@@ -53,7 +57,10 @@ fn flow_node(flow: Flow, width: u64, ty: Option<Ty>) -> Result<Streamed, Fault>
 {
     match ty {
         Some(ty) => flow_sized(flow, width, ty),
-        None => Err(Fault::Mistyped),
+        None => {
+            drop(flow);
+            Err(Fault::Mistyped)
+        }
     }
 }
 
@@ -63,18 +70,30 @@ pub fn map_node(alloc: Global, before: Streamed, by: Typed) -> Result<Streamed, 
 {
     let Streamed {
         flow,
-        ty: _former,
+        ty: former,
         width,
     } = before;
+    drop(former);
     let Typed { term, ty } = by;
-    let flow = mapped(alloc, flow, term)?;
-    flow_sized(flow, width, ty)
+    match mapped(alloc, flow, term) {
+        Ok(flow) => flow_sized(flow, width, ty),
+        Err(_) => {
+            drop(ty);
+            Err(Fault::NoMemory)
+        }
+    }
 }
 
 fn mapped(alloc: Global, flow: Flow, by: Term) -> Result<Flow, NoMemory>
     ensures { IfOk result (λ f. f ≡ Map flow by) }
 {
-    Ok(Flow::Map(Boxed::new(alloc, flow)?, by))
+    match Boxed::new(alloc, flow) {
+        Ok(flow) => Ok(Flow::Map(flow, by)),
+        Err(refused) => {
+            drop(by);
+            Err(refused)
+        }
+    }
 }
 
 /// A filter over a stream.
@@ -83,14 +102,27 @@ pub fn filter_node(alloc: Global, before: Streamed, by: Typed) -> Result<Streame
 {
     let Streamed { flow, ty, width } = before;
     let Typed { term, ty: test } = by;
-    let flow = kept(alloc, flow, term)?;
-    flow_node(flow, width, filtered(ty, &test))
+    let ty = filtered(ty, &test);
+    drop(test);
+    match kept(alloc, flow, term) {
+        Ok(flow) => flow_node(flow, width, ty),
+        Err(_) => {
+            drop(ty);
+            Err(Fault::NoMemory)
+        }
+    }
 }
 
 fn kept(alloc: Global, flow: Flow, by: Term) -> Result<Flow, NoMemory>
     ensures { IfOk result (λ f. f ≡ Filter flow by) }
 {
-    Ok(Flow::Filter(Boxed::new(alloc, flow)?, by))
+    match Boxed::new(alloc, flow) {
+        Ok(flow) => Ok(Flow::Filter(flow, by)),
+        Err(refused) => {
+            drop(by);
+            Err(refused)
+        }
+    }
 }
 
 fn filtered(ty: Ty, test: &Ty) -> Option<Ty>
@@ -98,7 +130,10 @@ fn filtered(ty: Ty, test: &Ty) -> Option<Ty>
 {
     match test {
         Ty::Bool => Some(ty),
-        _ => None,
+        _ => {
+            drop(ty);
+            None
+        }
     }
 }
 
@@ -108,18 +143,29 @@ pub fn flat_node(alloc: Global, before: Streamed, by: Typed) -> Result<Streamed,
 {
     let Streamed {
         flow,
-        ty: _former,
+        ty: former,
         width,
     } = before;
+    drop(former);
     let Typed { term, ty: list } = by;
-    let flow = flat_mapped(alloc, flow, term)?;
-    elements_sized(alloc, flow, width, &list)
+    let sized = match flat_mapped(alloc, flow, term) {
+        Ok(flow) => elements_sized(alloc, flow, width, &list),
+        Err(_) => Err(Fault::NoMemory),
+    };
+    drop(list);
+    sized
 }
 
 fn flat_mapped(alloc: Global, flow: Flow, by: Term) -> Result<Flow, NoMemory>
     ensures { IfOk result (λ f. f ≡ FlatMap flow by) }
 {
-    Ok(Flow::FlatMap(Boxed::new(alloc, flow)?, by))
+    match Boxed::new(alloc, flow) {
+        Ok(flow) => Ok(Flow::FlatMap(flow, by)),
+        Err(refused) => {
+            drop(by);
+            Err(refused)
+        }
+    }
 }
 
 fn elements_sized(alloc: Global, flow: Flow, width: u64, list: &Ty) -> Result<Streamed, Fault>
@@ -128,11 +174,17 @@ fn elements_sized(alloc: Global, flow: Flow, width: u64, list: &Ty) -> Result<St
         (λ of. spec.flow_sized flow (width * of.1) of.0)) result }
 {
     match list {
-        Ty::List { of, most } => {
-            let of = copy(alloc, of.get())?;
-            times_sized(flow, width, *most, of)
+        Ty::List { of, most } => match copy(alloc, of.get()) {
+            Ok(of) => times_sized(flow, width, *most, of),
+            Err(_) => {
+                drop(flow);
+                Err(Fault::NoMemory)
+            }
+        },
+        _ => {
+            drop(flow);
+            Err(Fault::Mistyped)
         }
-        _ => Err(Fault::Mistyped),
     }
 }
 
@@ -158,7 +210,10 @@ pub fn merge_node(alloc: Global, left: Streamed, right: Streamed) -> Result<Stre
         ty: right,
         width: n,
     } = right;
-    merge_over(alloc, a, b, m + n, &left, &right)
+    let merged = merge_over(alloc, a, b, m + n, &left, &right);
+    drop(left);
+    drop(right);
+    merged
 }
 
 fn merge_over(
@@ -174,16 +229,32 @@ fn merge_over(
         (spec.flow_node (Merge a b) width (joined (type_of left.now) (type_of right.now))) result }
 {
     let flow = merged(alloc, a, b)?;
-    let joint = join(alloc, left, right)?;
-    flow_node(flow, width, joint)
+    match join(alloc, left, right) {
+        Ok(joint) => flow_node(flow, width, joint),
+        Err(_) => {
+            drop(flow);
+            Err(Fault::NoMemory)
+        }
+    }
 }
 
 fn merged(alloc: Global, left: Flow, right: Flow) -> Result<Flow, NoMemory>
     ensures { IfOk result (λ flow. flow ≡ Merge left right) }
 {
-    let left = Boxed::new(alloc, left)?;
-    let right = Boxed::new(alloc, right)?;
-    Ok(Flow::Merge(left, right))
+    let left = match Boxed::new(alloc, left) {
+        Ok(left) => left,
+        Err(refused) => {
+            drop(right);
+            return Err(refused);
+        }
+    };
+    match Boxed::new(alloc, right) {
+        Ok(right) => Ok(Flow::Merge(left, right)),
+        Err(refused) => {
+            drop(left);
+            Err(refused)
+        }
+    }
 }
 
 /// A stream beside what a service has at its keys; `at` is the service's number.
@@ -197,7 +268,9 @@ pub fn join_node(
         (spec.join_node (streamed_of before) (at, service_of service.now)) result }
 {
     let Streamed { flow, ty, width } = before;
-    join_over(alloc, flow, width, at, service, &ty)
+    let joined = join_over(alloc, flow, width, at, service, &ty);
+    drop(ty);
+    joined
 }
 
 fn join_over(
@@ -213,8 +286,13 @@ fn join_over(
         (spec.join_type (service_of service.now) (type_of ty.now))) result }
 {
     let flow = looked_up(alloc, flow, at)?;
-    let joint = join_type(alloc, service, ty)?;
-    flow_node(flow, width, joint)
+    match join_type(alloc, service, ty) {
+        Ok(joint) => flow_node(flow, width, joint),
+        Err(_) => {
+            drop(flow);
+            Err(Fault::NoMemory)
+        }
+    }
 }
 
 fn looked_up(alloc: Global, flow: Flow, at: u64) -> Result<Flow, NoMemory>
@@ -243,7 +321,10 @@ fn joined_pair(
         ≡ spec.join_type (service_of service.now) (pairs (type_of key.now) (type_of value.now))) }
 {
     match join(alloc, key, &service.key)? {
-        Some(_) => Ok(Some(with_found(alloc, key, value, &service.value)?)),
+        Some(both) => {
+            drop(both);
+            Ok(Some(with_found(alloc, key, value, &service.value)?))
+        }
         None => Ok(None),
     }
 }
@@ -254,6 +335,19 @@ fn with_found(alloc: Global, key: &Ty, value: &Ty, found: &Ty) -> Result<Ty, NoM
         ≡ pairs (type_of key.now) (pairs (type_of value.now) (options (type_of found.now)))) }
 {
     let found = option_of(alloc, copy(alloc, found)?)?;
-    let both = pair_of(alloc, copy(alloc, value)?, found)?;
-    pair_of(alloc, copy(alloc, key)?, both)
+    let both = behind(alloc, value, found)?;
+    behind(alloc, key, both)
+}
+
+// The pairs of a type and of another.
+fn behind(alloc: Global, first: &Ty, second: Ty) -> Result<Ty, NoMemory>
+    ensures { IfOk result (λ t. type_of t ≡ pairs (type_of first.now) (type_of second)) }
+{
+    match copy(alloc, first) {
+        Ok(first) => pair_of(alloc, first, second),
+        Err(refused) => {
+            drop(second);
+            Err(refused)
+        }
+    }
 }

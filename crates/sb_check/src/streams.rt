@@ -35,24 +35,39 @@ fn map_stage(alloc: Global, by: &Expr, before: Streamed) -> Result<Streamed, Fau
     ensures { Tells streamed_of (and_then (expr_walk by.now (streamed_of before).type)
         (map_node (streamed_of before))) result }
 {
-    let by = expr(alloc, by, &before.ty)?;
-    map_node(alloc, before, by)
+    match expr(alloc, by, &before.ty) {
+        Ok(by) => map_node(alloc, before, by),
+        Err(fault) => {
+            drop(before);
+            Err(fault)
+        }
+    }
 }
 
 fn filter_stage(alloc: Global, by: &Expr, before: Streamed) -> Result<Streamed, Fault>
     ensures { Tells streamed_of (and_then (expr_walk by.now (streamed_of before).type)
         (filter_node (streamed_of before))) result }
 {
-    let by = expr(alloc, by, &before.ty)?;
-    filter_node(alloc, before, by)
+    match expr(alloc, by, &before.ty) {
+        Ok(by) => filter_node(alloc, before, by),
+        Err(fault) => {
+            drop(before);
+            Err(fault)
+        }
+    }
 }
 
 fn flat_stage(alloc: Global, by: &Expr, before: Streamed) -> Result<Streamed, Fault>
     ensures { Tells streamed_of (and_then (expr_walk by.now (streamed_of before).type)
         (flat_node (streamed_of before))) result }
 {
-    let by = expr(alloc, by, &before.ty)?;
-    flat_node(alloc, before, by)
+    match expr(alloc, by, &before.ty) {
+        Ok(by) => flat_node(alloc, before, by),
+        Err(fault) => {
+            drop(before);
+            Err(fault)
+        }
+    }
 }
 
 fn join_stage(
@@ -67,7 +82,10 @@ fn join_stage(
 {
     match find_service(declared.services.as_slice(), name) {
         Some((at, service)) => join_node(alloc, before, at, service),
-        None => Err(Fault::Unknown),
+        None => {
+            drop(before);
+            Err(Fault::Unknown)
+        }
     }
 }
 
@@ -91,8 +109,13 @@ fn head(alloc: Global, tree: &Head, declared: &Declared) -> Result<Streamed, Fau
         Head::Name(name) => stream_named(alloc, declared, name.as_bytes()),
         Head::Merge(left, right) => {
             let left = stream(alloc, left.get(), declared)?;
-            let right = stream(alloc, right.get(), declared)?;
-            merge_node(alloc, left, right)
+            match stream(alloc, right.get(), declared) {
+                Ok(right) => merge_node(alloc, left, right),
+                Err(fault) => {
+                    drop(left);
+                    Err(fault)
+                }
+            }
         }
     }
 }

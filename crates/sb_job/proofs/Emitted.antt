@@ -164,6 +164,20 @@ parts_next {E = E} at n d positions less =
     ∙ (ap (map f) (flat_map-append at (take n positions) (slice_index_or positions n d ∷ []) ∙ ap (λ l. flat_map at (take n positions) ++ l) (append-nil (at (slice_index_or positions n d))))
     ∙ map-append f (flat_map at (take n positions)) (at (slice_index_or positions n d)))
 
+-- the values of the parts at positions are those at the first of them, and then those at the rest
+pub parts_behind : {E : Type 0} (at : ℕ → List (Part E)) (first second positions : List ℕ) → positions ≡ first ++ second
+    → keyed_values (flat_map at first) ++ keyed_values (flat_map at second) ≡ keyed_values (flat_map at positions)
+parts_behind {E = E} at first second positions is =
+    let f : Part E → KeyBytes × E = λ part. (part.key, part.value) in
+    sym (map-append f (flat_map at first) (flat_map at second)) ∙ (ap (map f) (sym (flat_map-append at first second)) ∙ ap (λ l. map f (flat_map at l)) (sym is))
+
+-- they are valid, where the log's records are
+pub positions_valid : {E : Type 0} (d : Dictionaries E) (records : List (Record E)) → AllByRecursion (IsRecord d) records → (positions : List ℕ)
+    → AreValid d (keyed_values (flat_map (parts_at records) positions))
+positions_valid d records h [] = tt
+positions_valid d records h (i ∷ positions) =
+    keyed_append d (parts_at records i) (flat_map (parts_at records) positions) (at_valid d i records h) (positions_valid d records h positions)
+
 -- behind nothing stands what is added alone
 pub alone : {X : Type 0} (before more now : List X) → before ≡ [] → now ≡ before ++ more → now ≡ more
 alone before more now none e = e ∙ ap (λ l. l ++ more) none

@@ -3,6 +3,7 @@
 #![tactic(auto)]
 
 mod by_batch;
+mod halving;
 mod jobs;
 mod key_set;
 mod key_sums;
@@ -10,6 +11,7 @@ mod lists;
 mod splitting;
 
 pub use by_batch::{add_asked, is_key, push_found};
+pub use halving::halvings;
 pub use jobs::job;
 pub use key_set::KeySet;
 pub use key_sums::KeySums;

@@ -245,13 +245,3 @@ read-text m t a of typed = rw (sym (append-nil (element_text a)), (element_reads
 
 pub some_read : {X : Type 0} (answer o : Option X) (P : X → Type 0) → answer ≡ o → IfSome o P → IfSome answer P
 some_read answer o P is holds = rw is holds
-
--- a pair without its closing parenthesis is none
-pub pair_open : (m n : Monoid) (t a b : ValueType) (bytes inside after : List ℕ) (x y : Agg) → halves t ≡ Some (a, b) → behind 40 (element_front m a) bytes ≡ Some (found x inside)
-    → behind 44 (element_front n b) inside ≡ Some (found y after) → expect 41 after ≡ None → None ≡ element_front (pairs m n) t bytes
-pair_open m n t a b bytes inside after x y parts left right none =
-    let whole : both_front (element_front m a) (element_front n b) bytes ≡ None =
-    ap (option_and_then (λ x. option_and_then (λ y. option_map (λ rest. found (x.value, y.value) rest) (expect 41 y.rest)) (behind 44 (element_front n b) x.rest))) left
-    ∙ (ap (option_and_then (λ y. option_map (λ rest. found (x, y.value) rest) (expect 41 y.rest))) right ∙ ap (option_map (λ rest. found (x, y) rest)) none) in
-    sym (ap (option_and_then (λ h. made (λ both. Pair both.0 both.1) (both_front (element_front m h.0) (element_front n h.1) bytes))) parts
-    ∙ ap (made (λ both. Pair both.0 both.1)) whole)

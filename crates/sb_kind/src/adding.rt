@@ -19,8 +19,8 @@ use crate::keyed::{ByKey, ValueSets};
 use crate::kind::Kind;
 use crate::many::Many;
 use crate::parts::{
-    into_cells, into_entries, into_halves, into_part, into_registers, into_scored, into_values,
-    number_of, put, put_parts, take, take_left, take_right,
+    into_cells, into_entries, into_halves, into_number, into_part, into_registers, into_scored,
+    into_values, number_of, put, put_parts, take, take_left, take_right,
 };
 use crate::undoing::{take_back, undo};
 use crate::undone::Undone;
@@ -119,18 +119,21 @@ pub fn add(kind: &Kind, alloc: Global, a: &mut Agg, b: Agg) -> Result<Undone, No
 {
     match kind {
         Kind::Sum => {
-            let sum = number_of(a).wrapping_add(number_of(&b));
+            let sum = number_of(a).wrapping_add(into_number(b));
             Ok(put_kept(a, Agg::Sum(sum)))
         }
         Kind::Min => {
-            let least = number_of(a).min(number_of(&b));
+            let least = number_of(a).min(into_number(b));
             Ok(put_kept(a, Agg::Min(least)))
         }
         Kind::Max => {
-            let greatest = number_of(a).max(number_of(&b));
+            let greatest = number_of(a).max(into_number(b));
             Ok(put_kept(a, Agg::Max(greatest)))
         }
-        Kind::First => Ok(Undone::Nothing),
+        Kind::First => {
+            drop(b);
+            Ok(Undone::Nothing)
+        }
         Kind::Last => Ok(put_kept(a, b)),
         Kind::Concat => add_concat(alloc, a, b),
         Kind::Set => add_set(alloc, a, b),
@@ -174,8 +177,8 @@ fn pair_undone(first: Boxed<Undone>, second: Boxed<Undone>, left: Undone, right:
     ensures second { second_in result ≡ right }
 {
     let (mut first, mut second) = (first, second);
-    let _ = first.replace(left);
-    let _ = second.replace(right);
+    drop(first.replace(left));
+    drop(second.replace(right));
     Undone::Pair(first, second)
 }
 

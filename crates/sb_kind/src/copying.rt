@@ -1,8 +1,7 @@
 //! Copies of elements.
-ghost use Rattle.std.specs.Prelude.{◌≡◌, IfOk};
+ghost use Rattle.std.specs.Prelude.{◌≡◌, [], ◌∷◌, ◌++◌, IfOk, OnOk};
 
-use crate::agg::{Agg, Tops};
-use crate::boxed::Boxed;
+use crate::agg::{Agg, Tops, pair_of};
 use crate::many::Many;
 use sb_laws::{Items, NoMemory};
 use sb_types::Val;
@@ -25,17 +24,51 @@ pub fn copy(alloc: Global, a: &Agg) -> Result<Agg, NoMemory>
         Agg::Hll(registers) => Ok(Agg::Hll(registers.copy(alloc)?)),
         Agg::Pair(left, right) => {
             let left = copy(alloc, left.get())?;
-            let right = copy(alloc, right.get())?;
-            Ok(Agg::Pair(Boxed::new(alloc, left)?, Boxed::new(alloc, right)?))
+            match copy(alloc, right.get()) {
+                Ok(right) => pair_of(alloc, left, right),
+                Err(refused) => {
+                    drop(left);
+                    Err(refused)
+                }
+            }
         }
         Agg::Map(entries) => {
             let mut copied = Vec::with_capacity(alloc, entries.len())?;
             for entry in entries.as_slice() {
-                let key = sb_types::copy(alloc, &entry.0)?;
-                let part = copy(alloc, &entry.1)?;
-                copied.push((key, part))?;
+                let part = match copy(alloc, &entry.1) {
+                    Ok(part) => part,
+                    Err(refused) => {
+                        drop(copied);
+                        return Err(refused);
+                    }
+                };
+                if let Err(refused) = push_entry(alloc, &entry.0, part, &mut copied) {
+                    drop(copied);
+                    return Err(refused);
+                }
             }
             Ok(Agg::Map(Many::from_vec(copied)))
+        }
+    }
+}
+
+// Appends a part at an equal key.
+fn push_entry(
+    alloc: Global,
+    key: &Val,
+    part: Agg,
+    out: &mut Vec<(Val, Agg)>,
+) -> Result<(), NoMemory>
+    ensures { OnOk result (out.new.items ≡ out.old.items ++ (key.now, part) ∷ []) }
+{
+    match sb_types::copy(alloc, key) {
+        Ok(key) => {
+            out.push((key, part))?;
+            Ok(())
+        }
+        Err(refused) => {
+            drop(part);
+            Err(refused)
         }
     }
 }

@@ -19,6 +19,15 @@ pub fn number_of(a: &Agg) -> i64
     }
 }
 
+/// The same of an element that is given up.
+pub fn into_number(a: Agg) -> i64
+    ensures { result ≡ number_in a }
+{
+    let number = number_of(&a);
+    drop(a);
+    number
+}
+
 /// The values of a list or a set.
 pub fn into_values(alloc: Global, a: Agg) -> Items<Val>
     ensures { result ≡ values_in a }
@@ -109,8 +118,8 @@ pub fn put_parts(a: &mut Agg, left: Agg, right: Agg)
     ensures { a.old ≡ Pair (left_in a.old) (right_in a.old) → a.new ≡ Pair left right }
 {
     if let Agg::Pair(left_box, right_box) = a {
-        let _ = left_box.replace(left);
-        let _ = right_box.replace(right);
+        drop(left_box.replace(left));
+        drop(right_box.replace(right));
     }
 }
 

@@ -3,13 +3,12 @@ ghost use Rattle.std.specs.Prelude.{◌≡◌, [], ◌∷◌, IfOk};
 ghost use Rattle.sb_gather.specs.Tops.{by_rank, IsTop};
 ghost use Rattle.sb_kind.specs.Elements.{IsOf, text_cmp};
 ghost use Rattle.sb_kind.specs.KindView.{monoid_of};
-ghost use Rattle.sb_kind.specs.declared.agg.Agg.{Pair, Map};
+ghost use Rattle.sb_kind.specs.declared.agg.Agg.{Map};
 ghost use Rattle.sb_sketch.specs.Cms.{AreCounts, counts_of};
 ghost use Rattle.sb_sketch.specs.Hll.{AreRegisters, registers_of};
 ghost use Rattle.sb_kind.specs.Prepared.{int_in, text_in, first_in, second_in, prepared};
 
-use crate::agg::{Agg, Tops};
-use crate::boxed::Boxed;
+use crate::agg::{Agg, Tops, pair_of};
 use crate::kind::Kind;
 use crate::many::Many;
 use sb_gather::TopM;
@@ -86,14 +85,6 @@ fn one_position(hll: &HllM, alloc: Global, v: Val) -> Registers
     hll.one(item.as_bytes())
 }
 
-fn pair_of(alloc: Global, left: Agg, right: Agg) -> Result<Agg, NoMemory>
-    ensures { IfOk result (λ a. a ≡ Pair left right) }
-{
-    let left = Boxed::new(alloc, left)?;
-    let right = Boxed::new(alloc, right)?;
-    Ok(Agg::Pair(left, right))
-}
-
 fn map_of(alloc: Global, key: Val, part: Agg) -> Result<Agg, NoMemory>
     ensures { IfOk result (λ a. a ≡ Map ((key, part) ∷ [])) }
 {
@@ -119,14 +110,30 @@ pub fn prepare(alloc: Global, kind: &Kind, v: Val) -> Result<Agg, NoMemory>
         Kind::Hll(hll) => Ok(Agg::Hll(one_position(hll, alloc, v))),
         Kind::Pair(left_kind, right_kind) => {
             let (left, right) = into_halves(v);
-            let left = prepare(alloc, left_kind.get(), left)?;
-            let right = prepare(alloc, right_kind.get(), right)?;
-            pair_of(alloc, left, right)
+            let left = match prepare(alloc, left_kind.get(), left) {
+                Ok(left) => left,
+                Err(refused) => {
+                    drop(right);
+                    return Err(refused);
+                }
+            };
+            match prepare(alloc, right_kind.get(), right) {
+                Ok(right) => pair_of(alloc, left, right),
+                Err(refused) => {
+                    drop(left);
+                    Err(refused)
+                }
+            }
         }
         Kind::Map(part_kind) => {
             let (key, value) = into_halves(v);
-            let part = prepare(alloc, part_kind.get(), value)?;
-            map_of(alloc, key, part)
+            match prepare(alloc, part_kind.get(), value) {
+                Ok(part) => map_of(alloc, key, part),
+                Err(refused) => {
+                    drop(key);
+                    Err(refused)
+                }
+            }
         }
     }
 }

@@ -1,5 +1,6 @@
 //! Elements read from their texts.
 ghost use Rattle.std.specs.Prelude.{◌≡◌, Some, IfOk, IfSome, option_map};
+ghost use Rattle.sb_types.specs.Read.{expect};
 ghost use Rattle.sb_types.specs.TyView.{type_of};
 ghost use Rattle.sb_kind.specs.ElementText.{element_text};
 ghost use Rattle.sb_kind.specs.Elements.{IsOf, val_cmp};
@@ -7,7 +8,7 @@ ghost use Rattle.sb_kind.specs.KindView.{monoid_of};
 ghost use Rattle.sb_kind.specs.Monoids.{IsPair, maps};
 ghost use Rattle.sb_kind.specs.Read.{found, found_of, behind, val_front, entry_front, item_at, items_front, halves, element_front, element_read};
 ghost use Rattle.sb_kind.specs.Typed.{IsTyped};
-ghost use Rattle.sb_kind.specs.declared.agg.Agg.{Agg};
+ghost use Rattle.sb_kind.specs.declared.agg.Agg.{Agg, Pair};
 
 mod leaves;
 mod lists;
@@ -16,8 +17,7 @@ use self::leaves::{
     read_first, read_greatest, read_hll, read_last, read_least, read_sum, read_value,
 };
 use self::lists::{after_comma, read_cms, read_concat, read_set, read_top};
-use crate::agg::Agg;
-use crate::boxed::Boxed;
+use crate::agg::{Agg, pair_of};
 use crate::keyed::ByKey;
 use crate::kind::Kind;
 use crate::many::Many;
@@ -126,13 +126,35 @@ fn read_pair<'a>(
     let Some((x, bytes)) = read_behind(b'(', alloc, left.get(), first, bytes)? else {
         return Ok(None);
     };
-    let Some((y, bytes)) = read_behind(b',', alloc, right.get(), second, bytes)? else {
-        return Ok(None);
-    };
+    match read_behind(b',', alloc, right.get(), second, bytes) {
+        Ok(Some((y, bytes))) => closed(alloc, x, y, bytes),
+        Ok(None) => {
+            drop(x);
+            Ok(None)
+        }
+        Err(refused) => {
+            drop(x);
+            Err(refused)
+        }
+    }
+}
+
+// The pair of both, where its parenthesis is closed.
+fn closed<'a>(
+    alloc: Global,
+    x: Agg,
+    y: Agg,
+    bytes: &'a [u8],
+) -> Result<Option<(Agg, &'a [u8])>, NoMemory>
+    ensures { IfOk result (λ read. option_map found_of read
+        ≡ option_map (found (Pair x y)) (expect 41 bytes.now)) }
+{
     let Some(bytes) = expect(b')', bytes) else {
+        drop(x);
+        drop(y);
         return Ok(None);
     };
-    let pair = Agg::Pair(Boxed::new(alloc, x)?, Boxed::new(alloc, y)?);
+    let pair = pair_of(alloc, x, y)?;
     Ok(Some((pair, bytes)))
 }
 

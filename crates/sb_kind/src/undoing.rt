@@ -75,7 +75,7 @@ pub fn undo(kind: &Kind, alloc: Global, a: &mut Agg, undone: Undone)
         → a.new ≡ earlier }
 {
     match kind {
-        Kind::First => {}
+        Kind::First => drop(undone),
         Kind::Concat => undo_concat(alloc, a, undone),
         Kind::Set => undo_set(alloc, a, undone),
         Kind::Top(top) => undo_top(top, alloc, a, undone),

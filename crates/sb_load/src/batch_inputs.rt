@@ -105,7 +105,10 @@ fn load_others<H: Shelf>(
 {
     let services = match load_services(alloc, shelf, names, program.checked()) {
         Ok(services) => services,
-        Err(refusal) => return Err(refusal),
+        Err(refusal) => {
+            drop(program);
+            return Err(refusal);
+        }
     };
     match fetch_text(alloc, shelf, log) {
         Ok(log) => Ok(BatchInputs {
@@ -113,6 +116,10 @@ fn load_others<H: Shelf>(
             services,
             log,
         }),
-        Err(refusal) => Err(refusal),
+        Err(refusal) => {
+            drop(program);
+            drop(services);
+            Err(refusal)
+        }
     }
 }

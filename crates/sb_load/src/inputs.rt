@@ -119,11 +119,18 @@ fn load_others<H: Shelf>(
 {
     let services = match load_services(alloc, shelf, names, program.checked()) {
         Ok(services) => services,
-        Err(refusal) => return Err(refusal),
+        Err(refusal) => {
+            drop(program);
+            return Err(refusal);
+        }
     };
     let log = match load_log(alloc, shelf, names, program.checked()) {
         Ok(log) => log,
-        Err(refusal) => return Err(refusal),
+        Err(refusal) => {
+            drop(program);
+            drop(services);
+            return Err(refusal);
+        }
     };
     match load_script(alloc, shelf, names, program.checked()) {
         Ok(script) => Ok(Inputs {
@@ -132,7 +139,12 @@ fn load_others<H: Shelf>(
             log,
             script,
         }),
-        Err(refusal) => Err(refusal),
+        Err(refusal) => {
+            drop(program);
+            drop(services);
+            drop(log);
+            Err(refusal)
+        }
     }
 }
 

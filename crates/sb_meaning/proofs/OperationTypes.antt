@@ -118,6 +118,9 @@ module _ (P : List ℕ → Type 0) (keeps : KeepsTexts P) where
         let s = map_some (λ joint. lists joint (length (map type_in xs) + 1)) (joined_with (type_in x) (map type_in xs)) u e in
         let covers = joins_cover P (type_in x) (map type_in xs) s.0 s.1 in
         let vs = map value_in (x ∷ xs) in
-        subst (λ u. Is u (list (values_of vs))) s.2
-        (values_of vs, refl, subst (AllByRecursion (Is s.0)) (sym (items_are vs)) (all_of_type s.0 (x ∷ xs) covers are),
-        omega (arith, ap length (items_are vs), length-map xs value_in, length-map xs type_in))
+        subst (λ u. Is u (list (values_of vs))) s.2 (
+          values_of vs,
+          refl,
+          subst (AllByRecursion (Is s.0)) (sym (items_are vs)) (all_of_type s.0 (x ∷ xs) covers are),
+          omega (arith, ap length (items_are vs), length-map xs value_in, length-map xs type_in),
+        )

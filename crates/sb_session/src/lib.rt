@@ -1,5 +1,5 @@
-//! A session over shards, without threads: chunks of a feed are worked into the shards, batches are published, and reads
-//! merge what the key's shard holds.
+//! A session over shards: chunks of a feed are worked into the shards, batches are published, and reads merge what the key's
+//! shard holds. Threads are started only to add the records of a batch, and have ended when the call returns.
 #![tactic(auto)]
 
 mod draining;

@@ -19,6 +19,7 @@ use sb_shard::{AskError, Shard};
 use sb_text::Ranges;
 use std::alloc::{AllocError, Global};
 use std::marker::Model;
+use std::thread::Threads;
 
 /// The shards of a cut, into which the chunks of a feed are worked from the first on, and in which its batches are
 /// published. Each key is in the shard that the cut gives it. All shards are at the same chunks, batches and floor.
@@ -272,46 +273,59 @@ impl<E: Drop> Session<E> {
         shard.flush(alloc, feed, parcel)
     }
 
-    /// Publishes the batches of the log below this one that aren't published yet.
-    pub fn publish<F: Feed>(&mut self, alloc: Global, feed: &F, upto: u64) -> Result<(), NoMemory>
+    /// Publishes the batches of the log below this one that aren't published yet. The records of a large batch are added on
+    /// all processors.
+    pub fn publish<R: Threads + Sync, M: Commuting<El = E> + Sync, F: Feed<M = M> + Sync>(
+        &mut self,
+        rt: &R,
+        alloc: Global,
+        feed: &F,
+        upto: u64,
+    ) -> Result<(), NoMemory>
     where
-        F::M: Commuting<El = E>,
-        requires over { IsOver F.M.valid F.M.add (F.monoids feed.now) (F.records feed.now)
+        E: Send + Sync,
+        requires over { IsOver M.valid M.add (F.monoids feed.now) (F.records feed.now)
             self.old }
-        ensures over { OnOk result (IsOver F.M.valid F.M.add (F.monoids feed.now)
+        ensures over { OnOk result (IsOver M.valid M.add (F.monoids feed.now)
             (F.records feed.now) self.new) }
         ensures published { OnOk result (self.new.published
             ≡ max self.old.published (min upto self.old.batches)) }
         ensures others { OnOk result ((self.new.cut ≡ self.old.cut)
             × (self.new.worked ≡ self.old.worked) × (self.new.floor ≡ self.old.floor)) }
-        ensures err { OnErr result (StandEach F.M.valid F.M.add (F.monoids feed.now)
+        ensures err { OnErr result (StandEach M.valid M.add (F.monoids feed.now)
             (F.records feed.now) self.new) }
     {
         let end = upto.min(self.batches);
         for batch in self.published..end {
-            self.publish_next(alloc, feed, batch)?;
+            self.publish_next(rt, alloc, feed, batch)?;
         }
         Ok(())
     }
 
     // Publishes the next batch, which has this number, in each shard.
-    fn publish_next<F: Feed>(&mut self, alloc: Global, feed: &F, batch: u64) -> Result<(), NoMemory>
+    fn publish_next<R: Threads + Sync, M: Commuting<El = E> + Sync, F: Feed<M = M> + Sync>(
+        &mut self,
+        rt: &R,
+        alloc: Global,
+        feed: &F,
+        batch: u64,
+    ) -> Result<(), NoMemory>
     where
-        F::M: Commuting<El = E>,
-        requires over { IsOver F.M.valid F.M.add (F.monoids feed.now) (F.records feed.now)
+        E: Send + Sync,
+        requires over { IsOver M.valid M.add (F.monoids feed.now) (F.records feed.now)
             self.old }
         requires next { batch ≡ self.old.published }
         requires some { batch < self.old.batches }
-        ensures over { OnOk result (IsOver F.M.valid F.M.add (F.monoids feed.now)
+        ensures over { OnOk result (IsOver M.valid M.add (F.monoids feed.now)
             (F.records feed.now) self.new) }
         ensures published { OnOk result (self.new.published ≡ self.old.published + 1) }
         ensures others { OnOk result ((self.new.cut ≡ self.old.cut)
             × (self.new.worked ≡ self.old.worked) × (self.new.batches ≡ self.old.batches)
             × (self.new.floor ≡ self.old.floor)) }
-        ensures err { OnErr result (StandEach F.M.valid F.M.add (F.monoids feed.now)
+        ensures err { OnErr result (StandEach M.valid M.add (F.monoids feed.now)
             (F.records feed.now) self.new) }
     {
-        let rows = job(alloc, feed, batch, batch + 1)?;
+        let rows = job(rt, alloc, feed, batch, batch + 1)?;
         let mut number = 0;
         for rows in split_rows(alloc, rows, &self.cut)? {
             self.install_in(number, rows)?;

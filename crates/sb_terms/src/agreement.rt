@@ -3,6 +3,7 @@ ghost use Rattle.std.specs.Prelude.{◌≡◌, option_map, IfOk, IfSome};
 ghost use Rattle.sb_terms.specs.Agreement as spec;
 ghost use Rattle.sb_types.specs.TyView.{type_of, view_fields};
 
+use crate::copying::pair;
 use sb_text::NoMemory;
 use sb_types::{Field, Ty};
 use sqlite_items::{Boxed, Items};
@@ -22,10 +23,17 @@ pub fn join(alloc: Global, left: &Ty, right: &Ty) -> Result<Option<Ty>, NoMemory
             let Some(first) = join(alloc, a.get(), c.get())? else {
                 return Ok(None);
             };
-            let Some(second) = join(alloc, b.get(), d.get())? else {
-                return Ok(None);
-            };
-            Ok(Some(Ty::Pair(Boxed::new(alloc, first)?, Boxed::new(alloc, second)?)))
+            match join(alloc, b.get(), d.get()) {
+                Ok(Some(second)) => Ok(Some(pair(alloc, first, second)?)),
+                Ok(None) => {
+                    drop(first);
+                    Ok(None)
+                }
+                Err(refused) => {
+                    drop(first);
+                    Err(refused)
+                }
+            }
         }
         (Ty::Opt(a), Ty::Opt(b)) => {
             let Some(part) = join(alloc, a.get(), b.get())? else {

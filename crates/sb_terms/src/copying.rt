@@ -1,5 +1,6 @@
 //! Copies of types.
 ghost use Rattle.std.specs.Prelude.{◌≡◌, IfOk};
+ghost use Rattle.sb_types.specs.declared.types.Ty.TheVariants.{Pair};
 
 use sb_text::NoMemory;
 use sb_types::{Field, Ty};
@@ -17,8 +18,13 @@ pub fn copy(alloc: Global, ty: &Ty) -> Result<Ty, NoMemory>
         Ty::Bool => Ok(Ty::Bool),
         Ty::Pair(left, right) => {
             let left = copy(alloc, left.get())?;
-            let right = copy(alloc, right.get())?;
-            Ok(Ty::Pair(Boxed::new(alloc, left)?, Boxed::new(alloc, right)?))
+            match copy(alloc, right.get()) {
+                Ok(right) => pair(alloc, left, right),
+                Err(refused) => {
+                    drop(left);
+                    Err(refused)
+                }
+            }
         }
         Ty::Opt(part) => {
             let part = copy(alloc, part.get())?;
@@ -34,6 +40,26 @@ pub fn copy(alloc: Global, ty: &Ty) -> Result<Ty, NoMemory>
         Ty::Rec(fields) => {
             let fields = copy_fields(alloc, fields.as_slice())?;
             Ok(Ty::Rec(Items::from_vec(fields)))
+        }
+    }
+}
+
+/// The type of pairs of these types.
+pub fn pair(alloc: Global, first: Ty, second: Ty) -> Result<Ty, NoMemory>
+    ensures { IfOk result (λ t. t ≡ Pair first second) }
+{
+    let first = match Boxed::new(alloc, first) {
+        Ok(first) => first,
+        Err(refused) => {
+            drop(second);
+            return Err(refused);
+        }
+    };
+    match Boxed::new(alloc, second) {
+        Ok(second) => Ok(Ty::Pair(first, second)),
+        Err(refused) => {
+            drop(first);
+            Err(refused)
         }
     }
 }

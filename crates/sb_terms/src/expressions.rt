@@ -30,9 +30,21 @@ pub fn expr(alloc: Global, tree: &Expr, it: &Ty) -> Result<Typed, Fault>
     match tree {
         Expr::If(test, yes, no) => {
             let test = expr(alloc, test.get(), it)?;
-            let yes = expr(alloc, yes.get(), it)?;
-            let no = expr(alloc, no.get(), it)?;
-            if_node(alloc, test, yes, no)
+            let yes = match expr(alloc, yes.get(), it) {
+                Ok(yes) => yes,
+                Err(fault) => {
+                    drop(test);
+                    return Err(fault);
+                }
+            };
+            match expr(alloc, no.get(), it) {
+                Ok(no) => if_node(alloc, test, yes, no),
+                Err(fault) => {
+                    drop(test);
+                    drop(yes);
+                    Err(fault)
+                }
+            }
         }
         Expr::Plain(inner) => disj(alloc, inner, it),
     }
@@ -83,9 +95,14 @@ fn cmp(alloc: Global, tree: &Cmp, it: &Ty) -> Result<Typed, Fault>
         Cmp::Plain(inner) => add(alloc, inner, it),
         Cmp::Both(operator, left, right) => {
             let left = add(alloc, left, it)?;
-            let right = add(alloc, right, it)?;
             let comparison = Double::Compare(comparison(*operator));
-            two_node(alloc, comparison, left, right)
+            match add(alloc, right, it) {
+                Ok(right) => two_node(alloc, comparison, left, right),
+                Err(fault) => {
+                    drop(left);
+                    Err(fault)
+                }
+            }
         }
     }
 }
@@ -119,14 +136,20 @@ fn add_rest(alloc: Global, tree: &AddRest, it: &Ty, left: Typed) -> Result<Typed
     ensures { Tells typed_of (spec.add_rest_walk tree.now (type_of it.now) (typed_of left)) result }
 {
     match tree {
-        AddRest::Plus(inner) => {
-            let right = prod(alloc, inner, it)?;
-            two_node(alloc, Double::Plus, left, right)
-        }
-        AddRest::Minus(inner) => {
-            let right = prod(alloc, inner, it)?;
-            two_node(alloc, Double::Minus, left, right)
-        }
+        AddRest::Plus(inner) => match prod(alloc, inner, it) {
+            Ok(right) => two_node(alloc, Double::Plus, left, right),
+            Err(fault) => {
+                drop(left);
+                Err(fault)
+            }
+        },
+        AddRest::Minus(inner) => match prod(alloc, inner, it) {
+            Ok(right) => two_node(alloc, Double::Minus, left, right),
+            Err(fault) => {
+                drop(left);
+                Err(fault)
+            }
+        },
     }
 }
 
@@ -147,18 +170,27 @@ fn prod_rest(alloc: Global, tree: &ProdRest, it: &Ty, left: Typed) -> Result<Typ
         (spec.prod_rest_walk tree.now (type_of it.now) (typed_of left)) result }
 {
     match tree {
-        ProdRest::Times(inner) => {
-            let right = unary(alloc, inner, it)?;
-            two_node(alloc, Double::Times, left, right)
-        }
-        ProdRest::Over(number) => {
-            let divisor = divisor(*number)?;
-            one_node(alloc, Single::Over(divisor), left)
-        }
-        ProdRest::Modulo(number) => {
-            let divisor = divisor(*number)?;
-            one_node(alloc, Single::Modulo(divisor), left)
-        }
+        ProdRest::Times(inner) => match unary(alloc, inner, it) {
+            Ok(right) => two_node(alloc, Double::Times, left, right),
+            Err(fault) => {
+                drop(left);
+                Err(fault)
+            }
+        },
+        ProdRest::Over(number) => match divisor(*number) {
+            Ok(divisor) => one_node(alloc, Single::Over(divisor), left),
+            Err(fault) => {
+                drop(left);
+                Err(fault)
+            }
+        },
+        ProdRest::Modulo(number) => match divisor(*number) {
+            Ok(divisor) => one_node(alloc, Single::Modulo(divisor), left),
+            Err(fault) => {
+                drop(left);
+                Err(fault)
+            }
+        },
     }
 }
 
@@ -260,8 +292,13 @@ fn behind(alloc: Global, op: Double, tree: &Expr, it: &Ty, left: Typed) -> Resul
     ensures { Tells typed_of
         (spec.behind op (spec.expr_walk tree.now) (type_of it.now) (typed_of left)) result }
 {
-    let right = expr(alloc, tree, it)?;
-    two_node(alloc, op, left, right)
+    match expr(alloc, tree, it) {
+        Ok(right) => two_node(alloc, op, left, right),
+        Err(fault) => {
+            drop(left);
+            Err(fault)
+        }
+    }
 }
 
 #[cycle(walk)]

@@ -83,9 +83,20 @@ fn two_over(
 fn two_term(alloc: Global, op: Double, a: Term, b: Term) -> Result<Term, NoMemory>
     ensures { IfOk result (λ term. term ≡ Two op a b) }
 {
-    let a = Boxed::new(alloc, a)?;
-    let b = Boxed::new(alloc, b)?;
-    Ok(Term::Two(op, a, b))
+    let a = match Boxed::new(alloc, a) {
+        Ok(a) => a,
+        Err(refused) => {
+            drop(b);
+            return Err(refused);
+        }
+    };
+    match Boxed::new(alloc, b) {
+        Ok(b) => Ok(Term::Two(op, a, b)),
+        Err(refused) => {
+            drop(a);
+            Err(refused)
+        }
+    }
 }
 
 /// A choice by a test.
@@ -118,10 +129,30 @@ fn if_over(
 fn if_term(alloc: Global, c: Term, a: Term, b: Term) -> Result<Term, NoMemory>
     ensures { IfOk result (λ term. term ≡ If c a b) }
 {
-    let c = Boxed::new(alloc, c)?;
-    let a = Boxed::new(alloc, a)?;
-    let b = Boxed::new(alloc, b)?;
-    Ok(Term::If(c, a, b))
+    let c = match Boxed::new(alloc, c) {
+        Ok(c) => c,
+        Err(refused) => {
+            drop(a);
+            drop(b);
+            return Err(refused);
+        }
+    };
+    let a = match Boxed::new(alloc, a) {
+        Ok(a) => a,
+        Err(refused) => {
+            drop(c);
+            drop(b);
+            return Err(refused);
+        }
+    };
+    match Boxed::new(alloc, b) {
+        Ok(b) => Ok(Term::If(c, a, b)),
+        Err(refused) => {
+            drop(c);
+            drop(a);
+            Err(refused)
+        }
+    }
 }
 
 /// A list of parts, whose types stand beside them.

@@ -5,7 +5,7 @@ ghost use Rattle.sb_types.specs.TyView.{type_of, view_fields};
 ghost use Rattle.sb_types.specs.ValueType.{lists, options, pairs};
 
 use crate::agreement::join;
-use crate::copying::copy;
+use crate::copying::{copy, pair};
 use crate::term::{Double, Single};
 use sb_text::NoMemory;
 use sb_types::{Field, Fields, Ty};
@@ -62,9 +62,7 @@ pub fn list_of(alloc: Global, of: Ty, most: u64) -> Result<Ty, NoMemory>
 pub fn pair_of(alloc: Global, first: Ty, second: Ty) -> Result<Ty, NoMemory>
     ensures { IfOk result (λ t. type_of t ≡ pairs (type_of first) (type_of second)) }
 {
-    let first = Boxed::new(alloc, first)?;
-    let second = Boxed::new(alloc, second)?;
-    Ok(Ty::Pair(first, second))
+    pair(alloc, first, second)
 }
 
 /// The type of what is done with one value.
@@ -93,8 +91,13 @@ pub fn two_type(alloc: Global, op: Double, left: &Ty, right: &Ty) -> Result<Opti
     match (op, left, right) {
         (Double::Pair, left, right) => {
             let former = copy(alloc, left)?;
-            let second = copy(alloc, right)?;
-            Ok(Some(pair_of(alloc, former, second)?))
+            match copy(alloc, right) {
+                Ok(second) => Ok(Some(pair_of(alloc, former, second)?)),
+                Err(refused) => {
+                    drop(former);
+                    Err(refused)
+                }
+            }
         }
         (Double::Orelse, Ty::Opt(part), other) => join(alloc, part.get(), other),
         (Double::Starts, Ty::Text, Ty::Text) | (Double::Or | Double::And, Ty::Bool, Ty::Bool) => {
@@ -111,7 +114,10 @@ fn compared(alloc: Global, left: &Ty, right: &Ty) -> Result<Option<Ty>, NoMemory
         option_map type_of t ≡ spec.compared (type_of left.now) (type_of right.now)) }
 {
     match join(alloc, left, right)? {
-        Some(_) => Ok(Some(Ty::Bool)),
+        Some(both) => {
+            drop(both);
+            Ok(Some(Ty::Bool))
+        }
         None => Ok(None),
     }
 }

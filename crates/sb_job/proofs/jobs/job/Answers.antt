@@ -5,6 +5,6 @@ use Rattle.sb_job.proofs.jobs.job.Goals as goal
 
 pub returns-clause-rows : goal.returns-clause-rows
 returns-clause-rows g c =
-    let d = meant g.F.M.Semigroup.valid g.F.M.Semigroup.add (g.F.Family.monoids c.args.feed.now) in
+    let d = meant g.M.Semigroup.valid g.M.Semigroup.add (g.F.Family.monoids c.args.feed.now) in
     let records = g.F.Feed.records c.args.feed.now in
     record { valid = c.in_ok-rows.ensures.valid; folds = λ key. c.in_ok-rows.ensures.sums key ∙ key_sum_where d records _ key }

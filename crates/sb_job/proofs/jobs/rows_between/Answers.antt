@@ -12,29 +12,29 @@ use Rattle.sb_job.proofs.Emitted.{parts_at_batches}
 use Rattle.sb_job.proofs.Positions.{within, one_batch}
 use Rattle.sb_job.proofs.jobs.rows_between.Goals as goal
 
-pub sum_records-requires-clause-positions : goal.sum_records-requires-clause-positions
-sum_records-requires-clause-positions g c =
+pub rows_at-requires-clause-positions : goal.rows_at-requires-clause-positions
+rows_at-requires-clause-positions g c =
     let records = g.F.Feed.records c.args.feed.now in
-    subst (AllByRecursion (λ i. i < length records)) (sym c.positions.ensures) (within _ 0 (length records) (map (λ r. r.batch) records) (omega (arith, length-map records (λ r. r.batch))))
+    λ lifetimes outlive. subst (AllByRecursion (λ i. i < length records)) (sym c.positions.ensures) (within _ 0 (length records) (map (λ r. r.batch) records) (omega (arith, length-map records (λ r. r.batch))))
 
 pub returns-then-to-from-eq1 : goal.returns-then-to-from-eq1
 returns-then-to-from-eq1 g c =
-    let d = meant g.F.M.Semigroup.valid g.F.M.Semigroup.add (g.F.Family.monoids c.args.feed.now) in
+    let d = meant g.M.Semigroup.valid g.M.Semigroup.add (g.F.Family.monoids c.args.feed.now) in
     let records = g.F.Feed.records c.args.feed.now in
-    subst (λ parts. IfOk c.sum_records.result (AreKeySums d (keyed_values parts)))
+    subst (λ parts. IfOk c.rows_at.result (AreKeySums d (keyed_values parts)))
     (ap (flat_map (parts_at records)) (c.positions.ensures ∙ one_batch c.args.from c.args.to 0 (map (λ r. r.batch) records) (omega (arith, c.if-from-to.true, c.if-to-from-eq1.true)))
     ∙ parts_at_batches (is_between c.args.from c.args.to) records)
-    c.sum_records.ensures
+    c.rows_at.ensures
 
-pub sum_records-requires-2-clause-positions : goal.sum_records-requires-2-clause-positions
-sum_records-requires-2-clause-positions g c =
+pub rows_at-requires-2-clause-positions : goal.rows_at-requires-2-clause-positions
+rows_at-requires-2-clause-positions g c =
     let records = g.F.Feed.records c.args.feed.now in
-    subst (AllByRecursion (λ i. i < length records)) (sym (c.as_slice.ensures.value ∙ c.in_ok-positions.ensures)) (within _ 0 (length records) (map (λ r. r.batch) records) (omega (arith, length-map records (λ r. r.batch))))
+    λ lifetimes outlive. subst (AllByRecursion (λ i. i < length records)) (sym (c.as_slice.ensures.value ∙ c.in_ok-positions.ensures)) (within _ 0 (length records) (map (λ r. r.batch) records) (omega (arith, length-map records (λ r. r.batch))))
 
 pub returns : goal.returns
 returns g c =
-    let d = meant g.F.M.Semigroup.valid g.F.M.Semigroup.add (g.F.Family.monoids c.args.feed.now) in
+    let d = meant g.M.Semigroup.valid g.M.Semigroup.add (g.F.Family.monoids c.args.feed.now) in
     let records = g.F.Feed.records c.args.feed.now in
-    subst (λ parts. IfOk c.sum_records-2.result (AreKeySums d (keyed_values parts)))
+    subst (λ parts. IfOk c.rows_at-2.result (AreKeySums d (keyed_values parts)))
     (ap (flat_map (parts_at records)) (c.as_slice.ensures.value ∙ c.in_ok-positions.ensures) ∙ parts_at_batches (is_between c.args.from c.args.to) records)
-    c.sum_records-2.ensures
+    c.rows_at-2.ensures

@@ -7,7 +7,6 @@ use Rattle.sb_feed.specs.Jobs.{AreValid, meant}
 use Rattle.sb_feed.specs.Stands.{keyed_values}
 use Rattle.sb_job.specs.Sums.{key_sum, HasKeySums}
 use Rattle.sb_job.proofs.Emitted.{alone, at_valid, parts_next}
-use Rattle.sb_job.proofs.Growing.{permuted_valid}
 use Rattle.sb_job.proofs.jobs.sum_records.Goals as goal
 
 pub drain_parts-requires-clause-parts : goal.drain_parts-requires-clause-parts
@@ -41,6 +40,6 @@ returns g c =
     let d = meant g.F.M.Semigroup.valid g.F.M.Semigroup.add (g.F.Family.monoids c.args.feed.now) in
     let records = g.F.Feed.records c.args.feed.now in
     record {
-      valid = permuted_valid d _ _ c.in_ok-rows.ensures.same c.loop-i.invariant.valid;
-      sums = λ key. c.in_ok-rows.ensures.found key ∙ (c.loop-i.invariant.sums key ∙ ap (λ l. key_sum d key (keyed_values (flat_map (parts_at records) l))) (take_all c.loop-i.i-index c.args.positions.now (omega (arith, c.loop-i-test.false))));
+      valid = c.loop-i.invariant.valid;
+      sums = λ key. c.loop-i.invariant.sums key ∙ ap (λ l. key_sum d key (keyed_values (flat_map (parts_at records) l))) (take_all c.loop-i.i-index c.args.positions.now (omega (arith, c.loop-i-test.false)));
     }

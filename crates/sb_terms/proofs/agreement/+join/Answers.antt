@@ -5,17 +5,17 @@ use Rattle.sb_types.proofs.TyViews.{type_of-Rec}
 use Rattle.sb_terms.proofs.Fields.{next_joined, all_joined, second_longer}
 use Rattle.sb_terms.proofs.agreement.+join.Goals as goal
 
-pub join-returns-in_default-6 : goal.join-returns-in_default-6
-join-returns-in_default-6 t c =
+pub join-returns-in_default-5 : goal.join-returns-in_default-5
+join-returns-in_default-5 t c =
     let left = type_of-Rec c.in-Rec-Rec.a in
     let right = type_of-Rec c.in-Rec-Rec.b in
     grind (arith, common_steps, left, right)
 
-pub join-returns-in-Some-5 : goal.join-returns-in-Some-5
-join-returns-in-Some-5 t c =
+pub join-returns-in-Some-4 : goal.join-returns-in-Some-4
+join-returns-in-Some-4 t c =
     let left = type_of-Rec c.in-Rec-Rec.a in
     let right = type_of-Rec c.in-Rec-Rec.b in
-    let both = type_of-Rec c.in-Some-5.fields.items in
+    let both = type_of-Rec c.in-Some-4.fields.items in
     grind (arith, common_steps, left, right, both)
 
 pub join_fields-loop-at-preserved : goal.join_fields-loop-at-preserved

@@ -13,13 +13,13 @@ use Rattle.sb_session.proofs.session.Session.publish_next.Goals as goal
 
 pub overflow_add-batch : goal.overflow_add-batch
 overflow_add-batch g c =
-    let few = few_batches g.F.M.Semigroup.valid g.F.M.Semigroup.add (g.F.Family.monoids c.args.feed.now) (g.F.Feed.records c.args.feed.now) c.args.self.now c.requires.over in
+    let few = few_batches g.M.Semigroup.valid g.M.Semigroup.add (g.F.Family.monoids c.args.feed.now) (g.F.Feed.records c.args.feed.now) c.args.self.now c.requires.over in
     omega (arith, few, c.requires.some)
 
 pub loop-rows-init : goal.loop-rows-init
 loop-rows-init g c =
-    let V = g.F.M.Semigroup.valid in
-    let A = g.F.M.Semigroup.add in
+    let V = g.M.Semigroup.valid in
+    let A = g.M.Semigroup.add in
     let monoids = g.F.Family.monoids c.args.feed.now in
     let records = g.F.Feed.records c.args.feed.now in
     let before = c.args.self.now in
@@ -37,8 +37,8 @@ loop-rows-init g c =
 
 pub returns-in_err-install_in-clause-err : goal.returns-in_err-install_in-clause-err
 returns-in_err-install_in-clause-err g c =
-    let V = g.F.M.Semigroup.valid in
-    let A = g.F.M.Semigroup.add in
+    let V = g.M.Semigroup.valid in
+    let A = g.M.Semigroup.add in
     let monoids = g.F.Family.monoids c.args.feed.now in
     let records = g.F.Feed.records c.args.feed.now in
     let before = c.args.self.now in
@@ -46,8 +46,8 @@ returns-in_err-install_in-clause-err g c =
 
 pub loop-rows-preserved : goal.loop-rows-preserved
 loop-rows-preserved g c =
-    let V = g.F.M.Semigroup.valid in
-    let A = g.F.M.Semigroup.add in
+    let V = g.M.Semigroup.valid in
+    let A = g.M.Semigroup.add in
     let monoids = g.F.Family.monoids c.args.feed.now in
     let records = g.F.Feed.records c.args.feed.now in
     let before = c.args.self.now in
@@ -67,8 +67,8 @@ loop-rows-preserved g c =
 
 pub returns-clause-over : goal.returns-clause-over
 returns-clause-over g c =
-    let V = g.F.M.Semigroup.valid in
-    let A = g.F.M.Semigroup.add in
+    let V = g.M.Semigroup.valid in
+    let A = g.M.Semigroup.add in
     let monoids = g.F.Family.monoids c.args.feed.now in
     let records = g.F.Feed.records c.args.feed.now in
     let before = c.args.self.now in
