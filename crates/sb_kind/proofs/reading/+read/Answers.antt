@@ -16,3 +16,4 @@ read_entries-loop-at-preserved t c =
     (items_step (entry_front (val_front (type_of c.args.key.now)) (element_front (monoid_of c.args.part.now) (type_of c.args.value.now))) (length c.args.bytes.now) c.loop-at.at
     c.loop-at.entries.items c.in-Some.entry c.loop-at.rest.now c.in-Some.after.now _
     (omega (arith, c.loop-at-test.true)) (sym (rw c.in-Some.is at c.in_ok-entry.ensures)) c.loop-at.invariant)
+
