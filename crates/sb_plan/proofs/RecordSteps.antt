@@ -41,6 +41,10 @@ module _ (r : Logged) (services : List Rows) (lets : List (List Value)) where
       → after ≡ before + sum_by (λ store. store r services lets) (take (n + 1) stores)
   store_counted stores n before done after e f = f ∙ behind_counted _ _ _ _ _ e (taken_more stores n) ∙ ap (λ k. before + sum_by of (take k stores)) (sym (add-one n))
 
+-- a plan has a store for each of its program
+pub many_stores : (c : CheckedProgram) (p : Plan) → plan_value p ≡ planned c → length (plan_costs p).stores ≡ length c.declared.stores
+many_stores c p is = length-map p.stores.items store_steps ∙ (sym (length-map p.stores.items feeding_by) ∙ (ap (λ (v : Planned). length v.stores) is ∙ length-map c.declared.stores feeding_of))
+
 firsts : {X : Type 0} (f : X → Cost) (xs : List X) → map (λ l. l.0) (map f xs) ≡ map (λ x. (f x).0) xs
 firsts f [] = refl
 firsts f (x ∷ xs) = ap (λ l. (f x).0 ∷ l) (firsts f xs)

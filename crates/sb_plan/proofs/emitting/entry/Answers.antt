@@ -30,5 +30,5 @@ returns-clause-steps g c =
     let r = logged_of c.args.logged.now in
     let services = map view_service c.args.services.now in
     let lets = map (λ l. map value_of l.items) c.deref.result.now in
-    record_counted c.args.plan.now services r lets c.args.steps.now c.let_values-lets.new.steps c.add_stores.new.steps
+    record_counted c.args.plan.now services r lets c.args.steps.now c.let_values.new.steps c.add_stores.new.steps
     (ap (map (λ l. map value_of l.items)) c.deref.ensures.value ∙ c.in_ok-lets.ensures.values) c.in_ok-lets.ensures.steps c.in_ok-add_stores.ensures.steps
