@@ -1,6 +1,5 @@
 -- The steps of paths, stage by stage, are those of the streams that they are of.
-use Rattle.std.proofs.Common.{◌≡◌, ◌∙◌, ℕ, zero, suc, ◌+◌, ◌*◌, List, [], ◌∷◌, ◌++◌, map, length, refl, sym, ap, arith, mul-zero, mul-add, add-zero}
-use Rattle.std.specs.Borrow.{Bor}
+use Rattle.std.proofs.Common.{◌≡◌, ◌∙◌, ℕ, ◌+◌, ◌*◌, List, [], ◌∷◌, ◌++◌, length, refl, sym, ap, arith, mul-zero, mul-add, add-zero}
 use Rattle.std.specs.List.{flat_map, sum_by}
 use Rattle.std.proofs.lemmas.List.{length-append}
 use Rattle.std.proofs.lemmas.List.Sums.{sum_by-append, sum_by-cons}
@@ -13,7 +12,7 @@ use Rattle.sb_check.specs.Log.{Logged}
 use Rattle.sb_service.specs.Rows.{Rows}
 use Rattle.sb_plan.specs.Given.{OfRecord, given}
 use Rattle.sb_plan.specs.Paths.{stage_gives, chain_gives, root_gives, path_gives, gives}
-use Rattle.sb_plan.specs.PathSteps.{stage_steps, chain_steps, path_steps, paths_steps, paths_cost, ending_steps, steps_behind}
+use Rattle.sb_plan.specs.PathSteps.{stage_steps, chain_steps, path_steps, paths_steps, paths_cost, steps_behind}
 use Rattle.sb_plan.specs.Steps.{Steps, Cost, flow_cost, flow_steps}
 use Rattle.sb_plan.specs.declared.paths.Path.{Path}
 use Rattle.sb_plan.specs.declared.paths.Root.{Root}

@@ -1,24 +1,18 @@
 -- The steps of a record, let by let and store by store.
-use Rattle.std.proofs.Common.{◌≡◌, ◌<◌, ◌∙◌, ℕ, zero, suc, ◌+◌, List, [], ◌∷◌, map, drop, get_or, length, take, refl, sym, ap, add-one, arith}
+use Rattle.std.proofs.Common.{◌≡◌, ◌∙◌, ℕ, zero, suc, ◌+◌, List, [], ◌∷◌, map, length, take, refl, sym, ap, add-one, arith}
 use Rattle.std.specs.Prelude.{slice_get}
 use Rattle.std.specs.List.{sum_by}
-use Rattle.std.proofs.lemmas.List.{at_drop_more, length-map}
+use Rattle.std.proofs.lemmas.List.{length-map}
 use Rattle.std.proofs.lemmas.List.Sums.{sum_by-cons}
 use Rattle.sb_types.specs.Value.{Value}
 use Rattle.sb_check.specs.Log.{Logged}
 use Rattle.sb_check.specs.Programs.{CheckedProgram}
 use Rattle.sb_service.specs.Rows.{Rows}
-use Rattle.sb_plan.specs.Given.{OfRecord, Planned, feeding_of, let_values, lets_given, planned}
+use Rattle.sb_plan.specs.Given.{Planned, feeding_of, let_values, lets_given, planned}
 use Rattle.sb_plan.specs.PathSteps.{paths_cost, plan_costs, store_steps}
 use Rattle.sb_plan.specs.Plans.{feeding_by, plan_value}
 use Rattle.sb_plan.specs.Steps.{Cost, Steps, lets_steps, record_steps, steps_by}
 use Rattle.sb_plan.specs.declared.plan.Plan.{Plan}
-
--- one more of a list is counted
-pub one_counted : {X Y : Type 0} (F : Y → ℕ) (g : X → Y) (xs : List X) (i : ℕ) (x : X) (done after all : ℕ) → i < length xs → x ≡ get_or xs i x → after ≡ done + F (g x) → done + sum_by F (map g (drop i xs)) ≡ all
-    → after + sum_by F (map g (drop (i + 1) xs)) ≡ all
-one_counted F g xs i x done after all there is one h =
-    omega (arith, one, h, at_drop_more (λ l. sum_by F (map g l)) xs i x there, sum_by-cons F (g (get_or xs i x)) (map g (drop (i + 1) xs)), ap (λ y. F (g y)) is)
 
 behind_one : (all before rest rest' one a : ℕ) → all ≡ a + rest' → before ≡ a + rest → rest' ≡ rest + one → all ≡ before + one
 behind_one all before rest rest' one a e f h = omega (arith, e, f, h)

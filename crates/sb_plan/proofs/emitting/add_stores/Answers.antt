@@ -1,4 +1,4 @@
-use Rattle.std.proofs.Common.{◌≡◌, ◌∙◌, ℕ, ◌+◌, List, ap, add-one, sym, subst, map, arith}
+use Rattle.std.proofs.Common.{◌∙◌, ℕ, ◌+◌, List, ap, add-one, sym, subst, map, arith}
 use Rattle.std.specs.Prelude.{IsTrue}
 use Rattle.std.specs.FinMap.{is_sorted}
 use Rattle.std.specs.List.{AllByRecursion, sum_by}

@@ -65,5 +65,5 @@ returns-clause-counted g c =
     let stores = (plan_costs c.args.plan.now).stores in
     let count = many_planned p c.args.runner.now c.requires.stores in
     let all = take_all c.loop-store.store stores (omega (arith, c.loop-store-test.false, c.stores-store-end.ensures, count, length-map p.declared.stores feeding_of, many_stores p c.args.plan.now c.requires.plan)) in
-    record_counted c.args.plan.now services r lets c.args.steps.now c.let_values-lets.new.steps c.loop-store.steps c.in_ok-lets.ensures.values c.in_ok-lets.ensures.steps
-    (c.loop-store.invariant.counted ∙ ap (λ (stores : List Steps). c.let_values-lets.new.steps + sum_by (λ store. store r services lets) stores) all)
+    record_counted c.args.plan.now services r lets c.args.steps.now c.let_values.new.steps c.loop-store.steps c.in_ok-lets.ensures.values c.in_ok-lets.ensures.steps
+    (c.loop-store.invariant.counted ∙ ap (λ (stores : List Steps). c.let_values.new.steps + sum_by (λ store. store r services lets) stores) all)

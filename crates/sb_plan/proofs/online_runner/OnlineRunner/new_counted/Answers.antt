@@ -3,7 +3,6 @@ use Rattle.std.specs.List.{AllByRecursion, sum_by}
 use Rattle.sb_check.specs.Admission.{all_commute}
 use Rattle.sb_check.specs.Declarations.{Store}
 use Rattle.sb_check.specs.Log.{are_in_batches, logged_of}
-use Rattle.sb_check.specs.LogView.{view_log}
 use Rattle.sb_check.specs.OnlineView.{online_of}
 use Rattle.sb_check.specs.Programs.{CheckedProgram}
 use Rattle.sb_feed.specs.Jobs.{IsRecord, meant}

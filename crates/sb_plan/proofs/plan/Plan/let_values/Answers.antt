@@ -1,7 +1,7 @@
 use Rattle.std.proofs.Common.{◌≡◌, ◌∙◌, ◌+◌, ◌∷◌, ◌++◌, [], ap, sym, drop, map, arith}
 use Rattle.std.proofs.lemmas.List.{drop_more, map-append}
 use Rattle.sb_check.specs.Log.{logged_of}
-use Rattle.sb_plan.specs.Given.{OfRecord, lets_given}
+use Rattle.sb_plan.specs.Given.{lets_given}
 use Rattle.sb_plan.specs.PathSteps.{paths_cost, steps_behind}
 use Rattle.sb_plan.specs.Paths.{gives}
 use Rattle.sb_plan.specs.Steps.{lets_steps}
