@@ -9,6 +9,8 @@ pub mod Keys
 pub mod PathCosts
 pub mod Placing
 pub mod ProgramBounds
+pub mod RecordSteps
+pub mod RunSteps
 pub mod Runs
 pub mod StepViews
 pub mod StreamBounds

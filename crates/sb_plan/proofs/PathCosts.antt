@@ -1,6 +1,5 @@
 -- The steps of paths, stage by stage, are those of the streams that they are of.
-use Rattle.std.proofs.Common.{◌≡◌, ◌∙◌, ℕ, zero, suc, ◌+◌, ◌*◌, List, [], ◌∷◌, ◌++◌, map, length, refl, sym, ap, arith, mul-zero, mul-add, add-zero}
-use Rattle.std.specs.Borrow.{Bor}
+use Rattle.std.proofs.Common.{◌≡◌, ◌∙◌, ℕ, ◌+◌, ◌*◌, List, [], ◌∷◌, ◌++◌, length, refl, sym, ap, arith, mul-zero, mul-add, add-zero}
 use Rattle.std.specs.List.{flat_map, sum_by}
 use Rattle.std.proofs.lemmas.List.{length-append}
 use Rattle.std.proofs.lemmas.List.Sums.{sum_by-append, sum_by-cons}
@@ -13,7 +12,7 @@ use Rattle.sb_check.specs.Log.{Logged}
 use Rattle.sb_service.specs.Rows.{Rows}
 use Rattle.sb_plan.specs.Given.{OfRecord, given}
 use Rattle.sb_plan.specs.Paths.{stage_gives, chain_gives, root_gives, path_gives, gives}
-use Rattle.sb_plan.specs.PathSteps.{stage_steps, chain_steps, path_steps, paths_steps, paths_cost, ending_steps, steps_behind}
+use Rattle.sb_plan.specs.PathSteps.{stage_steps, chain_steps, path_steps, paths_steps, paths_cost, steps_behind}
 use Rattle.sb_plan.specs.Steps.{Steps, Cost, flow_cost, flow_steps}
 use Rattle.sb_plan.specs.declared.paths.Path.{Path}
 use Rattle.sb_plan.specs.declared.paths.Root.{Root}
@@ -28,7 +27,7 @@ module _ {A : Type 0} where
   sum_none [] = refl
   sum_none (x ∷ xs) = sum_by-cons (λ (x : A). 0) x xs ∙ omega (arith, sum_none xs)
 
-  sum_same : (f g : A → ℕ) (xs : List A) → ((x : A) → f x ≡ g x) → sum_by f xs ≡ sum_by g xs
+  pub sum_same : (f g : A → ℕ) (xs : List A) → ((x : A) → f x ≡ g x) → sum_by f xs ≡ sum_by g xs
   sum_same f g [] h = refl
   sum_same f g (x ∷ xs) h = sum_by-cons f x xs ∙ (omega (arith, h x, sum_same f g xs h) ∙ sym (sum_by-cons g x xs))
 
@@ -36,7 +35,7 @@ module _ {A : Type 0} where
   sum_one f x = omega arith
 
 -- with so many more for each value that comes out
-sum_behind : {A B : Type 0} (f : A → ℕ) (g : A → List B) (n : ℕ) (xs : List A) → sum_by (λ x. f x + n * length (g x)) xs ≡ sum_by f xs + n * length (flat_map g xs)
+pub sum_behind : {A B : Type 0} (f : A → ℕ) (g : A → List B) (n : ℕ) (xs : List A) → sum_by (λ x. f x + n * length (g x)) xs ≡ sum_by f xs + n * length (flat_map g xs)
 sum_behind f g n [] = omega arith
 sum_behind {A} f g n (x ∷ xs) =
     sum_by-cons (λ (x : A). f x + n * length (g x)) x xs

@@ -1,9 +1,9 @@
 -- A record takes at most as many steps as the widths that enter the stages of a program's text come to.
-use Rattle.std.proofs.Common.{◌≡◌, ◌≤◌, ◌∙◌, ℕ, zero, suc, ◌+◌, true, false, cond, List, [], ◌∷◌, ◌++◌, map, length, Option, Some, None, refl, sym, ap, subst, arith, IsUtf8}
+use Rattle.std.proofs.Common.{◌≡◌, ◌≤◌, ◌∙◌, ℕ, zero, suc, ◌+◌, ◌*◌, true, false, cond, List, [], ◌∷◌, ◌++◌, map, length, Option, Some, None, refl, sym, ap, subst, arith, suc-mul, IsUtf8}
 use Rattle.std.specs.Prelude.{Result, Ok, Err, IfSome, slice_get}
 use Rattle.std.specs.List.{AllByRecursion, sum_by}
 use Rattle.std.proofs.lemmas.List.{map-append}
-use Rattle.std.proofs.lemmas.List.Sums.{sum_by-append}
+use Rattle.std.proofs.lemmas.List.Sums.{sum_by-append, sum_by-cons}
 use Rattle.sb_types.specs.Value.{Value}
 use Rattle.sb_types.specs.ValueType.{ValueType, records}
 use Rattle.sb_kind.specs.Monoids.{Monoid}
@@ -326,3 +326,10 @@ module _ (P Q : List ℕ → Type 0) (h : (t : List ℕ) → P t → Q t) (d : D
 pub costs_within : (c : CheckedProgram) → AreWithin (costs_of c) c
 costs_within c e services r is_record are_rows =
     record_bounded c.program c e services r (declared_weaker IsUtf8 IsAny (λ t is. tt) c.declared r is_record) (rows_weaker IsUtf8 IsAny (λ t is. tt) c.declared services are_rows)
+
+-- and those of a log within as many times it as there are records
+pub log_within : (c : CheckedProgram) (services : List Rows) (log : List Logged) → check_of c.program ≡ Ok c → AllByRecursion (IsDeclared IsUtf8 c.declared) log → AreRowsOf IsUtf8 c.declared services
+    → sum_by (record_steps (costs_of c) services) log ≤ length log * program_bound c.program
+log_within c services [] e are are_rows = omega arith
+log_within c services (r ∷ log) e are are_rows =
+    omega (arith, sum_by-cons (record_steps (costs_of c) services) r log, costs_within c e services r are.0 are_rows, log_within c services log e are.1 are_rows, suc-mul (length log) (program_bound c.program))

@@ -1,5 +1,6 @@
 -- How many steps a record takes at most, by the widths that the checker finds.
-use Rattle.std.specs.Prelude.{◌≡◌, ◌≤◌, IsUtf8, ℕ, ◌+◌, List, [], ◌∷◌, Result, Ok, Err}
+use Rattle.std.specs.Prelude.{◌≡◌, ◌≤◌, IsUtf8, ℕ, ◌+◌, ◌*◌, List, [], ◌∷◌, length, Result, Ok, Err}
+use Rattle.std.specs.List.{AllByRecursion}
 use Rattle.sb_grammar.specs.declared.programs.Stream.{Stream}
 use Rattle.sb_grammar.specs.declared.programs.Head.TheOpen.{Head-F, Stream-F}
 use Rattle.sb_grammar.specs.declared.programs.Head.TheFolds.{fold-Stream}
@@ -73,3 +74,9 @@ abbrev pub AreWithin : Costs → CheckedProgram → Type 0
 AreWithin costs c =
     check_of c.program ≡ Ok c → (services : List Rows) (r : Logged) → IsDeclared IsUtf8 c.declared r → AreRowsOf IsUtf8 c.declared services
     → record_steps costs services r ≤ program_bound c.program
+
+-- so many steps before and after: where the program is checked, no more than the text's bound for each record of a log
+abbrev pub IsLogWithin : CheckedProgram → List Rows → List Logged → ℕ → ℕ → Type 0
+IsLogWithin c services log before after =
+    check_of c.program ≡ Ok c → AllByRecursion (IsDeclared IsUtf8 c.declared) log → AreRowsOf IsUtf8 c.declared services
+    → after ≤ before + length log * program_bound c.program

@@ -25,6 +25,11 @@ abbrev pub chain_steps : List Rows → List Stage → Value → ℕ
 chain_steps services [] v = 0
 chain_steps services (s ∷ stages) v = stage_steps s + sum_by (chain_steps services stages) (stage_gives services s v)
 
+-- and with so many more for each value that comes out, which what is made of it takes
+abbrev pub run_steps : ℕ → List Rows → List Stage → Value → ℕ
+run_steps n services [] v = n
+run_steps n services (s ∷ stages) v = stage_steps s + sum_by (run_steps n services stages) (stage_gives services s v)
+
 abbrev pub path_steps : Path → Steps
 path_steps path r services lets = sum_by (chain_steps services path.stages.items) (root_gives r lets path.root)
 

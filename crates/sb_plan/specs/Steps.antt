@@ -1,5 +1,5 @@
 -- What a record costs: one step is the value of the expression of one `map`, `filter` or `flatMap` for one value.
-use Rattle.std.specs.Prelude.{ℕ, ◌+◌, List, [], ◌∷◌, ◌++◌, length, map}
+use Rattle.std.specs.Prelude.{ℕ, ◌+◌, List, [], ◌∷◌, ◌++◌, length, map, Option, Some, None}
 use Rattle.std.specs.List.{sum_by}
 use Rattle.sb_types.specs.Value.{Value}
 use Rattle.sb_terms.specs.declared.flow.Flow.{Flow}
@@ -48,6 +48,11 @@ lets_steps r services done (l ∷ ls) = l.1 r services done + lets_steps r servi
 pub record Costs : Type 0 where
   pub lets : List Cost
   pub stores : List Steps
+
+-- those of a store, where it is there
+abbrev pub steps_by : Option Steps → Steps
+steps_by None r services lets = 0
+steps_by (Some steps) r services lets = steps r services lets
 
 -- the steps of a record: those of each let once, and those of each store
 abbrev pub record_steps : Costs → List Rows → Logged → ℕ

@@ -1,5 +1,5 @@
 //! What is made of each value that comes out of a path.
-ghost use Rattle.std.specs.Prelude.{◌≡◌, IfOk};
+ghost use Rattle.std.specs.Prelude.{◌≡◌, ◌+◌, IfOk, OnOk};
 ghost use Rattle.sb_kind.specs.Elements.{IsOf};
 ghost use Rattle.sb_kind.specs.KindView.{monoid_of};
 ghost use Rattle.sb_kind.specs.Prepared.{prepared};
@@ -12,15 +12,17 @@ ghost use Rattle.sb_types.specs.ValView.{val_of};
 
 use crate::texts::key_text;
 use sb_kind::{Agg, Kind, prepare};
-use sb_laws::NoMemory;
+use sb_laws::{NoMemory, Steps};
 use sb_meaning::{It, copy_part, first_of, lent, second_of, value};
 use sb_terms::Term;
 use sb_text::Text;
 use sb_types::Val;
 use std::alloc::Global;
+use std::sync::ledger::Ledger;
 
 /// What makes something of values.
 pub trait Maker {
+    ghost use Rattle.std.specs.Prelude.{ℕ};
     ghost use Rattle.sb_types.specs.Value.{Value};
 
     type Made: Drop;
@@ -31,9 +33,18 @@ pub trait Maker {
     /// What is known of all that is made.
     ghost good: { Self → Self.Made → Type 0 };
 
-    fn make(&self, alloc: Global, it: It<'_>) -> Result<Self::Made, NoMemory>
+    /// How many steps making takes for a value.
+    ghost takes: { Self → ℕ };
+
+    fn make<L: Ledger>(
+        &self,
+        alloc: Global,
+        it: It<'_>,
+        steps: &mut Steps<L>,
+    ) -> Result<Self::Made, NoMemory>
         ensures made { IfOk result (λ m. m ≡ made self.now (it_value it.entry)) }
-        ensures good { IfOk result (good self.now) };
+        ensures good { IfOk result (good self.now) }
+        ensures steps { OnOk result (steps.new ≡ steps.old + takes self.now) };
 }
 
 /// Copies values.
@@ -49,7 +60,14 @@ impl Maker for Copier {
 
     ghost good = { λ _ _. Unit {0} };
 
-    fn make(&self, alloc: Global, it: It<'_>) -> Result<Val, NoMemory> {
+    ghost takes = { λ _. 0 };
+
+    fn make<L: Ledger>(
+        &self,
+        alloc: Global,
+        it: It<'_>,
+        _steps: &mut Steps<L>,
+    ) -> Result<Val, NoMemory> {
         it.copied(alloc)
     }
 }
@@ -72,6 +90,7 @@ impl<'a> Maker for Feeder<'a> {
     ghost use Rattle.sb_kind.specs.Elements.{IsOf};
     ghost use Rattle.sb_kind.specs.KindView.{monoid_of};
     ghost use Rattle.sb_plan.specs.Feeding.{made_by};
+    ghost use Rattle.sb_plan.specs.PathSteps.{ending_steps};
 
     type Made = (Text, Agg);
 
@@ -79,10 +98,21 @@ impl<'a> Maker for Feeder<'a> {
 
     ghost good = { λ feeder made. IsOf (monoid_of feeder.kind.now) made.1 };
 
-    fn make(&self, alloc: Global, it: It<'_>) -> Result<(Text, Agg), NoMemory> {
+    ghost takes = { λ feeder. ending_steps feeder.ending };
+
+    // The two parts of a pair that isn't built are one expression of its stage, and one step.
+    fn make<L: Ledger>(
+        &self,
+        alloc: Global,
+        it: It<'_>,
+        steps: &mut Steps<L>,
+    ) -> Result<(Text, Agg), NoMemory> {
         match self.ending {
             Ending::Pair => make_of_pair(alloc, self.kind, it),
-            Ending::Split(key, value) => make_of_both(alloc, self.kind, key, value, it),
+            Ending::Split(key, value) => {
+                steps.tick();
+                make_of_both(alloc, self.kind, key, value, it)
+            }
         }
     }
 }

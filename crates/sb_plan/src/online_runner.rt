@@ -1,7 +1,7 @@
 //! The stores of a program over the records of a log, as a feed.
 ghost use Rattle.sb_check.specs.Log.{HavePlaces};
-ghost use Rattle.std.specs.Prelude.{◌≡◌, ◌<◌, ◌≤◌, ◌++◌, true, length, map, slice_index_or, take, IfOk, OnOk};
-ghost use Rattle.std.specs.List.{AllByRecursion};
+ghost use Rattle.std.specs.Prelude.{◌≡◌, ◌<◌, ◌≤◌, ◌+◌, ◌*◌, ◌++◌, true, length, map, slice_index_or, take, IfOk, OnOk};
+ghost use Rattle.std.specs.List.{AllByRecursion, sum_by};
 ghost use Rattle.sb_check.specs.Admission.{all_commute};
 ghost use Rattle.sb_check.specs.Declarations.{store_of};
 ghost use Rattle.sb_check.specs.LogView.{view_log};
@@ -11,8 +11,10 @@ ghost use Rattle.sb_feed.specs.Limits.{last_batch};
 ghost use Rattle.sb_kind.specs.KindView.{monoid_of};
 ghost use Rattle.sb_kind.specs.Monoids.{commutes};
 ghost use Rattle.sb_meaning.specs.Emissions.{logged_in};
+ghost use Rattle.sb_plan.specs.Bounds.{IsLogWithin};
 ghost use Rattle.sb_plan.specs.Entries.{entry_record};
 ghost use Rattle.sb_plan.specs.Runners.{Runs, online_monoid};
+ghost use Rattle.sb_plan.specs.Steps.{costs_of, record_steps};
 ghost use Rattle.sb_service.specs.Views.{view_service};
 
 use crate::emitting::entries;
@@ -22,12 +24,13 @@ use crate::stores::Stores;
 use sb_check::{Log, Online, StoreDecl};
 use sb_feed::{BatchIndex, Family, Feed, KeyBytes, Part, Printed};
 use sb_kind::{Agg, Kind, OnlineM, copy, text};
-use sb_laws::Key;
+use sb_laws::{Key, Steps};
 use sb_meaning::copy_kind;
 use sb_service::Service;
 use sb_text::{NoMemory, Text};
 use std::alloc::{AllocError, Global};
-use std::marker::Model;
+use std::marker::{Brand, Model};
+use std::sync::ledger::{Blank, Ledger};
 
 /// An admitted program over a log: its stores, each record with its batch and the sum of what it adds to each key, and
 /// the positions of each batch's records.
@@ -69,10 +72,50 @@ impl OnlineRunner {
         ensures { IfOk result (Runs (online_of o.now) (logged_in log.now)
             (map view_service services.now)) }
     {
+        OnlineRunner::new_from::<Brand>(alloc, o, log, services, Blank::new(1))
+    }
+
+    fn new_from<L: Ledger>(
+        alloc: Global,
+        o: &Online,
+        log: &Log,
+        services: &[Service],
+        blank: Blank,
+    ) -> Result<OnlineRunner, NoMemory>
+        requires batching { (view_log log.now).batching ≡ (online_of o.now).batching }
+        requires placed { HavePlaces 0 (logged_in log.now) }
+        requires name { blank.name ≡ L.name }
+        requires parts { (blank.parts ≡ L.parts) × (0 < blank.parts) }
+        ensures { IfOk result (Runs (online_of o.now) (logged_in log.now)
+            (map view_service services.now)) }
+    {
+        let (book, share) = blank.open::<L>();
+        let mut steps = Steps::new(book, share);
+        OnlineRunner::new_counted(alloc, o, log, services, &mut steps)
+    }
+
+    /// What `new` makes, and the steps of each record of the log. Where the program is checked as its text says, and the
+    /// records and rows are of the types that it declares, these are for each record within the text's bound.
+    pub fn new_counted<L: Ledger>(
+        alloc: Global,
+        o: &Online,
+        log: &Log,
+        services: &[Service],
+        steps: &mut Steps<L>,
+    ) -> Result<OnlineRunner, NoMemory>
+        requires batching { (view_log log.now).batching ≡ (online_of o.now).batching }
+        requires placed { HavePlaces 0 (logged_in log.now) }
+        ensures runs { IfOk result (Runs (online_of o.now) (logged_in log.now)
+            (map view_service services.now)) }
+        ensures steps { OnOk result (steps.new ≡ steps.old + sum_by (record_steps
+            (costs_of (online_of o.now)) (map view_service services.now)) (logged_in log.now)) }
+        ensures within { OnOk result (IsLogWithin (online_of o.now)
+            (map view_service services.now) (logged_in log.now) steps.old steps.new) }
+    {
         let c = o.checked();
         let stores = Stores::new(dictionaries(alloc, c.stores())?)?;
         let plan = plan_of(alloc, c)?;
-        let entries = entries(alloc, o, &plan, &stores, log.records(), services)?;
+        let entries = entries(alloc, o, &plan, &stores, log.records(), services, steps)?;
         let index = index_of(alloc, &entries)?;
         Ok(OnlineRunner {
             stores,

@@ -1,5 +1,5 @@
 //! The plan of a program: what its streams do with a record, one record at a time.
-ghost use Rattle.std.specs.Prelude.{◌≡◌, ◌<◌, ◌++◌, [], map, length, slice_get, IfOk, IfSome, OnOk};
+ghost use Rattle.std.specs.Prelude.{◌≡◌, ◌<◌, ◌+◌, ◌++◌, [], map, length, slice_get, IfOk, IfSome, OnOk};
 ghost use Rattle.std.specs.List.{AllByRecursion};
 ghost use Rattle.sb_check.specs.CheckedView.{checked_of};
 ghost use Rattle.sb_check.specs.Declarations.{let_of, store_of};
@@ -9,7 +9,7 @@ ghost use Rattle.sb_plan.specs.Given.{fed_by, feeding_of, given, let_values, pla
 ghost use Rattle.sb_plan.specs.Bounds.{AreWithin};
 ghost use Rattle.sb_plan.specs.PathSteps.{ending_steps, paths_cost, plan_costs, steps_behind, store_steps};
 ghost use Rattle.sb_plan.specs.Paths.{gives};
-ghost use Rattle.sb_plan.specs.Steps.{costs_of, flow_cost, flow_steps};
+ghost use Rattle.sb_plan.specs.Steps.{costs_of, flow_cost, flow_steps, lets_steps, steps_by};
 ghost use Rattle.sb_plan.specs.Plans.{EndsIn, feeding_by, is_fed, plan_value};
 ghost use Rattle.sb_service.specs.Views.{view_service};
 ghost use Rattle.sb_types.specs.Value.{Value, pair};
@@ -20,12 +20,13 @@ use crate::paths::{Path, paths};
 use crate::running::run_paths;
 use sb_check::{Checked, LetDecl, StoreDecl};
 use sb_kind::Agg;
-use sb_laws::NoMemory;
+use sb_laws::{NoMemory, Steps};
 use sb_service::Service;
 use sb_terms::{Double, Flow, Term};
 use sb_text::Text;
 use sb_types::{LogRecord, Val};
 use std::alloc::Global;
+use std::sync::ledger::Ledger;
 
 /// How a store is fed: the paths of its stream up to the last stage, and what is made of the values that come out.
 #[derive(Drop)]
@@ -119,21 +120,33 @@ fn split_pair<'a>(by: &'a Term) -> Option<(&'a Term, &'a Term)>
 }
 
 impl<'a> Plan<'a> {
-    /// What each let gives of a record.
-    pub fn let_values(
+    /// What each let gives of a record, and the steps of each let once.
+    pub fn let_values<L: Ledger>(
         &self,
         alloc: Global,
         logged: &LogRecord,
         services: &[Service],
+        steps: &mut Steps<L>,
     ) -> Result<Vec<Vec<Val>>, NoMemory>
-        ensures { IfOk result (λ lets. map (λ l. map value_of l.items) lets.items
+        ensures values { IfOk result (λ lets. map (λ l. map value_of l.items) lets.items
             ≡ let_values (plan_value self.now) (logged_of logged.now)
             (map view_service services.now)) }
+        ensures steps { OnOk result (steps.new ≡ steps.old + lets_steps (logged_of logged.now)
+            (map view_service services.now) [] (plan_costs self.now).lets) }
     {
         let mut lets = Vec::new(alloc);
         for plan in self.lets.as_slice() {
             let mut values = Vec::new(alloc);
-            run_paths(alloc, plan, logged, services, &lets, &Copier, &mut values)?;
+            run_paths(
+                alloc,
+                plan,
+                logged,
+                services,
+                &lets,
+                &Copier,
+                &mut values,
+                steps,
+            )?;
             lets.push(values)?;
         }
         Ok(lets)
@@ -141,7 +154,7 @@ impl<'a> Plan<'a> {
 
     /// Appends what a record feeds to the store of this number, by what the lets give of it: the texts of keys, and elements
     /// of the store's monoid. A refusal leaves some of that behind.
-    pub fn feed(
+    pub fn feed<L: Ledger>(
         &self,
         alloc: Global,
         logged: &LogRecord,
@@ -149,6 +162,7 @@ impl<'a> Plan<'a> {
         lets: &[Vec<Val>],
         store: u32,
         out: &mut Vec<(Text, Agg)>,
+        steps: &mut Steps<L>,
     ) -> Result<(), NoMemory>
         requires { store < length (plan_value self.now).stores }
         ensures fed { OnOk result (out.new.items ≡ out.old.items
@@ -158,6 +172,9 @@ impl<'a> Plan<'a> {
             (is_fed (slice_get (plan_value self.now).stores store)) out.old.items
             → AllByRecursion (is_fed (slice_get (plan_value self.now).stores store))
             out.new.items) }
+        ensures steps { OnOk result (steps.new ≡ steps.old
+            + steps_by (slice_get (plan_costs self.now).stores store) (logged_of logged.now)
+            (map view_service services.now) (map (λ l. map value_of l.items) lets.now)) }
     {
         let plan = &self.stores[store as usize];
         run_paths(
@@ -168,6 +185,7 @@ impl<'a> Plan<'a> {
             lets,
             &plan.feeder,
             out,
+            steps,
         )
     }
 }

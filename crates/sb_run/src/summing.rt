@@ -1,5 +1,5 @@
 //! The sums of a log, added while it is read, its pieces side by side.
-ghost use Rattle.std.specs.Prelude.{◌≡◌, ◌<◌, ◌+◌, ◌++◌, [], List, Result, map, length, IfOk, IfErr, OnOk, IsPermutation};
+ghost use Rattle.std.specs.Prelude.{◌≡◌, ◌<◌, ◌+◌, ◌++◌, [], List, Result, map, length, slice_get, IfOk, IfErr, OnOk, IsPermutation};
 ghost use Rattle.std.specs.FinMap.{find};
 ghost use Rattle.std.specs.List.{AllByRecursion};
 ghost use Rattle.std.specs.Thread.{IsSync};
@@ -15,8 +15,10 @@ ghost use Rattle.sb_kind.specs.declared.agg.Agg.{Agg as Element};
 ghost use Rattle.sb_log.specs.Reader.{left_of, program_of};
 ghost use Rattle.sb_log.specs.Reading.{GivesLog, onto_log};
 ghost use Rattle.sb_plan.specs.Given.{fed_at, let_values, planned};
+ghost use Rattle.sb_plan.specs.PathSteps.{plan_costs};
 ghost use Rattle.sb_plan.specs.Plans.{plan_value};
 ghost use Rattle.sb_plan.specs.Runners.{AreStores, kind_monoid};
+ghost use Rattle.sb_plan.specs.Steps.{record_steps, steps_by};
 ghost use Rattle.sb_run.specs.Batching.{AreSummed, GivesSums, IsFedTo, all_values, keyed, stores, values_of};
 ghost use Rattle.sb_service.specs.Rows.{Rows};
 ghost use Rattle.sb_service.specs.Views.{view_service};
@@ -27,12 +29,15 @@ use sb_check::{Checked, LogError};
 use sb_feed::{Family, KeyBytes, RowList};
 use sb_job::{KeySums, halvings};
 use sb_kind::Agg;
+use sb_laws::Steps;
 use sb_log::{Piece, Records};
 use sb_plan::{Plan, Runner, plan_of};
 use sb_service::Service;
 use sb_text::{NoMemory, Text};
 use sb_types::{LogRecord, Val};
 use std::alloc::Global;
+use std::marker::Brand;
+use std::sync::ledger::{Blank, Ledger};
 use std::thread::{Threads, join};
 
 /// The sum of each key of each store over the log of a text. The log is folded while it is read, in as many pieces as there
@@ -202,7 +207,7 @@ fn add_by_plan(
     runner: &Runner,
     plan: &Plan<'_>,
     services: &[Service],
-    mut records: Records<'_>,
+    records: Records<'_>,
 ) -> Result<KeySums<Agg>, LogError>
     requires stores { AreStores (checked_of c.now) kind_monoid runner.now }
     requires plan { plan_value plan.now ≡ planned (checked_of c.now) }
@@ -210,11 +215,33 @@ fn add_by_plan(
     ensures { GivesLog (AreSummed (checked_of c.now) (map view_service services.now) runner.now)
         (left_of records.entry) result }
 {
+    add_counted::<Brand>(alloc, c, runner, plan, services, records, Blank::new(1))
+}
+
+fn add_counted<L: Ledger>(
+    alloc: Global,
+    c: &Checked,
+    runner: &Runner,
+    plan: &Plan<'_>,
+    services: &[Service],
+    mut records: Records<'_>,
+    blank: Blank,
+) -> Result<KeySums<Agg>, LogError>
+    requires stores { AreStores (checked_of c.now) kind_monoid runner.now }
+    requires plan { plan_value plan.now ≡ planned (checked_of c.now) }
+    requires program { program_of records ≡ checked_of c.now }
+    requires name { blank.name ≡ L.name }
+    requires parts { (blank.parts ≡ L.parts) × (0 < blank.parts) }
+    ensures { GivesLog (AreSummed (checked_of c.now) (map view_service services.now) runner.now)
+        (left_of records.entry) result }
+{
+    let (book, share) = blank.open::<L>();
+    let mut steps = Steps::new(book, share);
     let mut sums = KeySums::new(alloc);
     let mut fed = Vec::new(alloc);
     while let Some(logged) = records.next_record(alloc)? {
         let added = add_record(
-            alloc, c, runner, plan, &logged, services, &mut fed, &mut sums,
+            alloc, c, runner, plan, &logged, services, &mut fed, &mut sums, &mut steps,
         );
         let Ok(()) = added else {
             return Err(LogError::NoMemory);
@@ -224,7 +251,7 @@ fn add_by_plan(
 }
 
 // Adds what a record feeds to the stores, store by store. What waits in between has room that is used again.
-fn add_record(
+fn add_record<L: Ledger>(
     alloc: Global,
     c: &Checked,
     runner: &Runner,
@@ -233,6 +260,7 @@ fn add_record(
     services: &[Service],
     fed: &mut Vec<(Text, Agg)>,
     sums: &mut KeySums<Agg>,
+    steps: &mut Steps<L>,
 ) -> Result<(), NoMemory>
     requires stores { AreStores (checked_of c.now) kind_monoid runner.now }
     requires plan { plan_value plan.now ≡ planned (checked_of c.now) }
@@ -246,17 +274,19 @@ fn add_record(
         → HasKeySums (stores runner.now) values sums.old
         → HasKeySums (stores runner.now) (values ++ values_of (planned (checked_of c.now))
         (map view_service services.now) (logged_of logged.now)) sums.new) }
+    ensures counted { OnOk result (steps.new ≡ steps.old + record_steps (plan_costs plan.now)
+        (map view_service services.now) (logged_of logged.now)) }
 {
-    let lets = plan.let_values(alloc, logged, services)?;
+    let lets = plan.let_values(alloc, logged, services, steps)?;
     for store in 0..runner.stores() {
         add_store(
-            alloc, c, runner, plan, logged, services, &lets, store, fed, sums,
+            alloc, c, runner, plan, logged, services, &lets, store, fed, sums, steps,
         )?;
     }
     Ok(())
 }
 
-fn add_store(
+fn add_store<L: Ledger>(
     alloc: Global,
     c: &Checked,
     runner: &Runner,
@@ -267,6 +297,7 @@ fn add_store(
     store: u32,
     fed: &mut Vec<(Text, Agg)>,
     sums: &mut KeySums<Agg>,
+    steps: &mut Steps<L>,
 ) -> Result<(), NoMemory>
     requires stores { AreStores (checked_of c.now) kind_monoid runner.now }
     requires plan { plan_value plan.now ≡ planned (checked_of c.now) }
@@ -286,8 +317,11 @@ fn add_store(
         → HasKeySums (stores runner.now) (values ++ map (keyed store)
         (fed_at (planned (checked_of c.now)) (map view_service services.now) store
         (logged_of logged.now))) sums.new) }
+    ensures counted { OnOk result (steps.new ≡ steps.old
+        + steps_by (slice_get (plan_costs plan.now).stores store) (logged_of logged.now)
+        (map view_service services.now) (map (λ l. map value_of l.items) lets.now)) }
 {
-    plan.feed(alloc, logged, services, lets, store, fed)?;
+    plan.feed(alloc, logged, services, lets, store, fed, steps)?;
     add_fed(alloc, runner, store, fed, sums)
 }
 

@@ -14,7 +14,7 @@ use Rattle.sb_plan.proofs.Runs.{fed_same, fed_valid, same_plus, same_valid}
 use Rattle.sb_plan.proofs.emitting.add_store.Goals as goal
 
 pub add_fed-requires-clause-values : goal.add_fed-requires-clause-values
-add_fed-requires-clause-values c =
+add_fed-requires-clause-values g c =
     let p = online_of c.args.o.now in
     let services = map view_service c.args.services.now in
     let good = c.in_ok-feed.ensures.good (subst (AllByRecursion (is_fed (slice_get (plan_value c.args.plan.now).stores c.args.store))) (sym c.new-fed.ensures.items) tt) in
@@ -25,7 +25,7 @@ is_fed_list : {X : Type 0} (before made now fed : List X) → before ≡ [] → 
 is_fed_list before made now fed none e f = e ∙ (ap (λ l. l ++ made) none ∙ f)
 
 pub returns-clause-value : goal.returns-clause-value
-returns-clause-value c =
+returns-clause-value g c =
     let p = online_of c.args.o.now in
     let services = map view_service c.args.services.now in
     let r = logged_of c.args.logged.now in
@@ -37,7 +37,7 @@ returns-clause-value c =
     (is_fed_list c.new-fed.result.items (fed_by (slice_get (plan_value c.args.plan.now).stores c.args.store) r services lets) c.feed.new.out.items (fed_at (planned p) services c.args.store r) c.new-fed.ensures.items c.in_ok-feed.ensures.fed same))) c.add_fed.ensures.value
 
 pub returns-clause-fed : goal.returns-clause-fed
-returns-clause-fed c =
+returns-clause-fed g c =
     let p = online_of c.args.o.now in
     let services = map view_service c.args.services.now in
     let r = logged_of c.args.logged.now in

@@ -17,7 +17,7 @@ use Rattle.sb_run.proofs.Summed.{keyed_valid}
 use Rattle.sb_run.proofs.summing.add_store.Goals as goal
 
 pub add_fed-requires-clause-values : goal.add_fed-requires-clause-values
-add_fed-requires-clause-values c =
+add_fed-requires-clause-values g c =
     let p = checked_of c.args.c.now in
     let good = c.in_ok-feed.ensures.good (subst (AllByRecursion (is_fed (slice_get (plan_value c.args.plan.now).stores c.args.store))) (sym c.requires.none) tt) in
     fed_to_store p c.args.runner.now c.requires.stores c.args.store c.requires.store c.feed.new.out.items
@@ -27,7 +27,7 @@ is_fed_list : {X : Type 0} (before made now fed : List X) → before ≡ [] → 
 is_fed_list before made now fed none e f = e ∙ (ap (λ l. l ++ made) none ∙ f)
 
 pub returns-clause-fed : goal.returns-clause-fed
-returns-clause-fed c =
+returns-clause-fed g c =
     let p = checked_of c.args.c.now in
     let services = map view_service c.args.services.now in
     let r = logged_of c.args.logged.now in
@@ -39,7 +39,7 @@ returns-clause-fed c =
     on_ok_weaker c.add_fed.result (λ none. subst (λ fed. AreValid (stores c.args.runner.now) (map (keyed c.args.store) fed)) is (keyed_valid c.args.runner.now c.args.store c.requires.store c.feed.new.out.items own)) c.add_fed.ensures.none
 
 pub returns-clause-sums : goal.returns-clause-sums
-returns-clause-sums c =
+returns-clause-sums g c =
     let p = checked_of c.args.c.now in
     let services = map view_service c.args.services.now in
     let r = logged_of c.args.logged.now in

@@ -8,7 +8,7 @@ use Rattle.sb_plan.specs.Plans.{feeding_by, is_fed}
 use Rattle.sb_plan.proofs.plan.Plan.feed.Goals as goal
 
 pub returns-clause-good : goal.returns-clause-good
-returns-clause-good c =
+returns-clause-good g c =
     let stores = c.args.self.now.stores.items in
     let plan = c.index-plan.result.now in
     let there : c.args.store < length stores = (let same = length-map stores feeding_by in let less = c.requires in omega (arith, same, less)) in

@@ -6,10 +6,10 @@ use Rattle.sb_log.specs.Reading.{records_behind}
 use Rattle.sb_log.proofs.Left.{kept_next}
 use Rattle.sb_service.specs.Views.{view_service}
 use Rattle.sb_run.proofs.Summed.{all_given, next_summed, when_ok}
-use Rattle.sb_run.proofs.summing.add_by_plan.Goals as goal
+use Rattle.sb_run.proofs.summing.add_counted.Goals as goal
 
 pub loop-fed-preserved : goal.loop-fed-preserved
-loop-fed-preserved c =
+loop-fed-preserved g c =
     let before = c.loop-fed.invariant.summed in
     let r = logged_of c.in-Some.logged in
     let next = subst (λ o. GivesNext (left_of c.loop-fed.records) (left_of c.next_record.new.self) (Ok o)) c.in-Some.is c.in_ok-logged.ensures.next in
@@ -28,7 +28,7 @@ loop-fed-preserved c =
     }
 
 pub returns : goal.returns
-returns c =
+returns g c =
     let before = c.loop-fed.invariant.summed in
     let next = subst (λ o. GivesNext (left_of c.loop-fed.records) (left_of c.next_record.new.self) (Ok o)) c.in_default.is c.in_ok-logged.ensures.next in
     (before.0, all_given before.0 _ _ before.1 next, before.2)
