@@ -1,12 +1,31 @@
-use Rattle.std.proofs.Common.{◌++◌, ◌∷◌, [], ◌∙◌, Ok, ap, map, subst, sym}
+use Rattle.std.proofs.Common.{◌≡◌, ◌++◌, ◌∷◌, [], ◌∙◌, List, Ok, Err, ap, map, refl, subst, sym}
+use Rattle.std.specs.Prelude.{Result}
 use Rattle.sb_check.specs.CheckedView.{checked_of}
-use Rattle.sb_check.specs.Log.{logged_of}
+use Rattle.sb_check.specs.Log.{LogFault, Logged, logged_of}
+use Rattle.sb_feed.specs.Jobs.{AreValid}
 use Rattle.sb_log.specs.Reader.{GivesNext, left_of}
 use Rattle.sb_log.specs.Reading.{records_behind}
 use Rattle.sb_log.proofs.Left.{kept_next}
 use Rattle.sb_service.specs.Views.{view_service}
-use Rattle.sb_run.proofs.Summed.{all_given, next_summed, when_ok}
+use Rattle.sb_run.specs.Batching.{AreSummed, stores}
+use Rattle.sb_run.proofs.Summed.{all_given, next_summed, none_summed, when_ok}
 use Rattle.sb_run.proofs.summing.add_counted.Goals as goal
+
+none_behind : (left : Result (List Logged) LogFault) → records_behind [] left ≡ left
+none_behind (Err fault) = refl
+none_behind (Ok records) = refl
+
+pub loop-fed-init : goal.loop-fed-init
+loop-fed-init g c =
+    let p = checked_of c.args.c.now in
+    let services = map view_service c.args.services.now in
+    let none = sym c.new-sums.ensures in
+    record {
+      program = c.requires.program;
+      none = c.new-fed.ensures.items;
+      valid = subst (AreValid (stores c.args.runner.now)) none tt;
+      summed = ([], none_behind (left_of c.args.records), subst (AreSummed p services c.args.runner.now []) none (none_summed p services c.args.runner.now));
+    }
 
 pub loop-fed-preserved : goal.loop-fed-preserved
 loop-fed-preserved g c =
