@@ -1,5 +1,5 @@
 -- What paths give, stage by stage.
-use Rattle.std.proofs.Common.{◌≡◌, ℕ, zero, suc, Bool, true, false, cond, List, [], ◌∷◌, ◌++◌, length, map, filter, refl, sym, ap, ◌∙◌, append_assoc, append-nil, arith}
+use Rattle.std.proofs.Common.{◌≡◌, ℕ, Bool, true, false, cond, List, [], ◌∷◌, ◌++◌, length, map, filter, refl, sym, ap, ◌∙◌, append_assoc, append-nil, arith}
 use Rattle.std.specs.List.{flat_map}
 use Rattle.std.specs.Borrow.{Bor}
 use Rattle.std.proofs.lemmas.List.{map-append}
@@ -19,7 +19,6 @@ use Rattle.sb_terms.specs.declared.term.Term.TheFolds.{fold-roll-Term}
 use Rattle.sb_terms.specs.declared.term.Term.TheVariants as term
 use Rattle.sb_check.specs.Log.{Logged}
 use Rattle.sb_kind.specs.Monoids.{Monoid}
-use Rattle.sb_kind.specs.declared.agg.Agg.{Agg}
 use Rattle.sb_service.specs.Rows.{Rows}
 use Rattle.sb_meaning.specs.Expression.{ev, ev_layer}
 use Rattle.sb_meaning.specs.Operations.{bytes_in, elements_in}

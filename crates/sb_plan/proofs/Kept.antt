@@ -1,16 +1,14 @@
 -- What parts keep where values are added to them.
-use Rattle.std.proofs.Common.{◌≡◌, ℕ, zero, suc, ◌<◌, true, false, cond, List, [], ◌∷◌, map, filter, length, Some, refl, sym, ap, subst, ◌∙◌}
+use Rattle.std.proofs.Common.{◌≡◌, ℕ, ◌<◌, true, false, cond, List, [], ◌∷◌, map, filter, length, Some, refl, sym, ap, subst}
 use Rattle.std.specs.Prelude.{slice_get}
 use Rattle.std.specs.FinMap.Entries.{by_order}
 use Rattle.std.specs.List.{AllByRecursion}
 use Rattle.std.specs.Str.{bytes_eq}
 use Rattle.std.specs.declared.cmp.Ordering.TheVariants.{Less, Equal, Greater}
 use Rattle.sb_laws.specs.Tables.{add_to}
-use Rattle.sb_laws.proofs.Tables.{is_true, truly, sorted_add_to}
 use Rattle.sb_feed.specs.declared.key.KeyBytes.{KeyBytes}
 use Rattle.sb_feed.specs.Jobs.{meant, valid_by, AreValid}
 use Rattle.sb_feed.specs.Keys.{key_order, key_order-IsAntisymmetric}
-use Rattle.sb_feed.proofs.KeyTies.{key_order_total}
 use Rattle.sb_plan.specs.Emitted.{Emission, of_key}
 use Rattle.sb_plan.specs.Parts.{key_at, with_fed}
 

@@ -17,7 +17,6 @@ use Rattle.sb_plan.specs.Steps.{Steps, Cost, flow_cost, flow_steps}
 use Rattle.sb_plan.specs.declared.paths.Path.{Path}
 use Rattle.sb_plan.specs.declared.paths.Root.{Root}
 use Rattle.sb_plan.specs.declared.paths.Stage.{Stage}
-use Rattle.sb_plan.specs.declared.paths.Stage.TheVariants as stage
 use Rattle.sb_plan.proofs.StepViews.{steps-Source, steps-Let, steps-Merge, steps-Map, steps-Filter, steps-FlatMap, steps-Join}
 
 -- ---- sums

@@ -1,5 +1,5 @@
 -- A runner's records are those of its log, and its folds those of what is emitted.
-use Rattle.std.proofs.Common.{◌≡◌, ◌∙◌, ◌⊎◌, inl, inr, ℕ, zero, suc, ◌+◌, ◌<◌, ◌≤◌, Bool, true, false, ◌&&◌, List, [], ◌∷◌, ◌++◌, map, length, Option, Some, None, refl, sym, ap, subst, add-one, arith}
+use Rattle.std.proofs.Common.{◌≡◌, ◌∙◌, ◌⊎◌, inl, inr, ℕ, zero, suc, ◌+◌, ◌<◌, ◌≤◌, Bool, true, false, ◌&&◌, List, [], ◌∷◌, ◌++◌, map, length, Option, Some, None, refl, sym, ap, subst, arith}
 use Rattle.std.specs.Prelude.{◌==◌, slice_get, slice_index_or, option_map, unwrap_or}
 use Rattle.std.specs.FinMap.{find}
 use Rattle.std.specs.List.{AllByRecursion}
@@ -8,10 +8,9 @@ use Rattle.std.proofs.lemmas.Option.{slice_get-map}
 use Rattle.std.proofs.lemmas.Bool.Decides.{nat_tests}
 use Rattle.sb_laws.specs.Folds.{fold_over}
 use Rattle.sb_laws.specs.Sums.{CommutingLaws}
-use Rattle.sb_batcher.specs.Batches.{Batching, batch_of}
 use Rattle.sb_check.specs.Admission.{all_commute}
 use Rattle.sb_check.specs.Declarations.{Store}
-use Rattle.sb_check.specs.Log.{HavePlaces, Logged, are_in_batches, is_batch}
+use Rattle.sb_check.specs.Log.{HavePlaces, Logged, is_batch}
 use Rattle.sb_check.specs.Programs.{CheckedProgram}
 use Rattle.sb_feed.specs.Feeds.{parts_of, parts_at}
 use Rattle.sb_feed.specs.Jobs.{Record, Dictionaries, IsRecord, add_by, valid_by, values_from}
@@ -24,14 +23,14 @@ use Rattle.sb_kind.specs.declared.agg.Agg.{Agg}
 use Rattle.sb_kind.specs.declared.dictionary.OnlineM.{OnlineM}
 use Rattle.sb_meaning.specs.Emissions.{monoid_in, monoid_at}
 use Rattle.sb_service.specs.Rows.{Rows}
-use Rattle.sb_plan.specs.Emitted.{Emission, of_key, fold_of, emitted}
+use Rattle.sb_plan.specs.Emitted.{Emission, of_key, fold_of}
 use Rattle.sb_plan.specs.Entries.{entry_record}
 use Rattle.sb_plan.specs.declared.parts.Entry.{Entry}
 use Rattle.sb_types.specs.Value.{Value}
 use Rattle.sb_plan.specs.Given.{Planned, feeding_of, planned, let_values, fed_by, fed_at}
 use Rattle.sb_plan.specs.Plans.{is_fed}
 use Rattle.sb_plan.specs.Parts.{key_at, record_in, IsFed}
-use Rattle.sb_plan.specs.Runners.{StoresValue, AreStores, Runs, batch_by, batch_in, online_monoid, online_add, online_valid, plus_at, valid_at}
+use Rattle.sb_plan.specs.Runners.{StoresValue, AreStores, Runs, batch_in, online_monoid, online_add, online_valid, plus_at, valid_at}
 use Rattle.sb_plan.proofs.Folded.{folds_same}
 use Rattle.sb_plan.proofs.ByRecord.{placed, by_record, emission_at, emitted_by_record}
 use Rattle.sb_plan.proofs.Found.{AreRising, AreFound, found_at, rising_below, found_below, found_by_record}

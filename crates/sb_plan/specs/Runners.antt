@@ -1,5 +1,5 @@
 -- What contracts see of the stores and the records of a run.
-use Rattle.std.specs.Prelude.{◌≡◌, ℕ, suc, ◌<◌, ◌==◌, Bool, List, [], ◌∷◌, length, map, slice_get, Some, unwrap_or}
+use Rattle.std.specs.Prelude.{◌≡◌, ℕ, ◌<◌, ◌==◌, Bool, List, [], length, map, slice_get, Some, unwrap_or}
 use Rattle.std.specs.FinMap.{find}
 use Rattle.std.specs.List.{AllByRecursion}
 use Rattle.sb_batcher.specs.Batches.{Batching, batch_of}

@@ -4,8 +4,7 @@ use Rattle.sb_terms.specs.declared.flow.Flow.TheVariants as flow
 use Rattle.sb_plan.specs.Given.{given}
 use Rattle.sb_plan.specs.PathSteps.{paths_cost, paths_steps, steps_behind}
 use Rattle.sb_plan.specs.Paths.{gives}
-use Rattle.sb_plan.specs.Steps.{Steps, flow_steps}
-use Rattle.sb_laws.proofs.Positions.{ap_both}
+use Rattle.sb_plan.specs.Steps.{flow_steps}
 use Rattle.sb_plan.proofs.Gives.{flat_by, given_flat_map}
 use Rattle.sb_plan.proofs.PathCosts.{behind_flow, flow-Filter, flow-FlatMap, flow-Map, merged_flow}
 use Rattle.sb_plan.proofs.paths.+paths.Goals as goal

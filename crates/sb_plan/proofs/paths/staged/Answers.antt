@@ -1,4 +1,4 @@
-use Rattle.std.proofs.Common.{◌≡◌, ◌++◌, ◌∷◌, [], List, refl, sym, subst, arith}
+use Rattle.std.proofs.Common.{refl, sym, subst, arith}
 use Rattle.std.specs.Vec.Iter.{into_iter_items}
 use Rattle.sb_plan.specs.declared.paths.Path.{Path}
 use Rattle.sb_plan.proofs.Gives.{AreStaged, next_staged, all_staged, nothing_left}
