@@ -1,5 +1,6 @@
 //! The escaped form of texts in reports, scripts and transcripts.
-ghost use Rattle.std.specs.Prelude.{◌≡◌, ℕ, ◌<◌, List, ◌++◌, Some, None, IsUtf8, OnOk, OnErr, IfOk, IfSome, IfNone, MatchOption, length, take, option_map};
+ghost use Rattle.std.specs.Prelude.{◌≡◌, true, ℕ, ◌<◌, List, ◌++◌, Some, None, IsUtf8, OnOk, OnErr, IfOk, IfSome, IfNone, MatchOption, length, take, option_map};
+ghost use Rattle.std.specs.List.{list_all};
 ghost use Rattle.sb_text.specs.Escape.{is_plain, hex_digit, escaped_byte, escaped, hex_value, byte_of_digits, after_percent, bytes_unescaped, unescaped, text_unescaped};
 ghost use Rattle.sb_text.specs.Field.{onto_text};
 
@@ -12,6 +13,10 @@ pub fn escape(_alloc: Global, out: &mut Vec<u8>, bytes: &[u8]) -> Result<(), NoM
     ensures ok { OnOk result (out.new.items ≡ out.old.items ++ escaped bytes.now) }
     ensures err { OnErr result (out.new.items ≡ out.old.items) }
 {
+    // Most texts are copied at once.
+    if is_plain_text(bytes) {
+        return out.extend_from_slice(bytes);
+    }
     let before = out.len();
     match push_escaped(out, bytes) {
         Ok(()) => Ok(()),
@@ -97,6 +102,24 @@ fn value_of_hex(digit: u8) -> Option<u8>
     }
 }
 
+/// Whether a text is its own escaped form.
+pub(crate) fn is_plain_text(bytes: &[u8]) -> bool
+    ensures { result ≡ true → escaped bytes.now ≡ bytes.now }
+{
+    !bytes.is_empty() && are_plain(bytes)
+}
+
+fn are_plain(bytes: &[u8]) -> bool
+    ensures { result ≡ list_all is_plain bytes.now }
+{
+    for byte in bytes {
+        if !is_plain_byte(*byte) {
+            return false;
+        }
+    }
+    true
+}
+
 // Stops in the middle where it finds no memory; what stood before is there still.
 fn push_escaped(out: &mut Vec<u8>, bytes: &[u8]) -> Result<(), NoMemory>
     ensures ok { OnOk result (out.new.items ≡ out.old.items ++ escaped bytes.now) }
@@ -123,7 +146,7 @@ fn push_byte(out: &mut Vec<u8>, byte: u8) -> Result<(), NoMemory>
     out.extend_from_slice(&[b'%', hex(byte / 16), hex(byte % 16)])
 }
 
-pub(crate) fn is_plain_byte(byte: u8) -> bool
+fn is_plain_byte(byte: u8) -> bool
     ensures { result ≡ is_plain byte }
 {
     match byte {

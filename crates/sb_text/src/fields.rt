@@ -1,5 +1,5 @@
 //! The form of texts in the fields of logs and services.
-ghost use Rattle.std.specs.Prelude.{◌≡◌, ℕ, List, ◌++◌, IsUtf8, OnOk, OnErr, IfOk, IfSome, Some, length, take, option_map};
+ghost use Rattle.std.specs.Prelude.{◌≡◌, true, ℕ, List, ◌++◌, IsUtf8, OnOk, OnErr, IfOk, IfSome, Some, length, take, option_map};
 ghost use Rattle.sb_text.specs.Field.{field_escaped_byte, field_escaped, field_unescaped, field_text, after_backslash};
 
 use crate::{NoMemory, Text};
@@ -60,6 +60,31 @@ pub fn field_unescape(alloc: Global, bytes: &[u8]) -> Result<Option<Text>, NoMem
 }
 
 fn unescape_bytes(alloc: Global, bytes: &[u8]) -> Result<Option<Vec<u8>>, NoMemory>
+    ensures { IfOk result (λ text. option_map (λ t. t.items) text ≡ field_unescaped bytes.now) }
+{
+    // Most fields are copied at once.
+    if are_plain(bytes) {
+        let mut text = Vec::new(alloc);
+        text.extend_from_slice(bytes)?;
+        return Ok(Some(text));
+    }
+    unescape_each(alloc, bytes)
+}
+
+// Whether each byte stands for itself.
+fn are_plain(bytes: &[u8]) -> bool
+    ensures { result ≡ true → field_unescaped bytes.now ≡ Some bytes.now }
+{
+    for byte in bytes {
+        match *byte {
+            b'\\' | b'\t' | b'\n' | b'\r' => return false,
+            _ => {}
+        }
+    }
+    true
+}
+
+fn unescape_each(alloc: Global, bytes: &[u8]) -> Result<Option<Vec<u8>>, NoMemory>
     ensures { IfOk result (λ text. option_map (λ t. t.items) text ≡ field_unescaped bytes.now) }
 {
     let mut text = Vec::with_capacity(alloc, bytes.len())?;

@@ -1,10 +1,9 @@
 //! Texts as they are printed.
-ghost use Rattle.std.specs.Prelude.{◌≡◌, true, IsUtf8, IfOk};
+ghost use Rattle.std.specs.Prelude.{◌≡◌, IsUtf8, IfOk};
 ghost use Rattle.std.specs.Fmt.{signed_decimal};
-ghost use Rattle.std.specs.List.{list_all};
-ghost use Rattle.sb_text.specs.Escape.{is_plain, escaped};
+ghost use Rattle.sb_text.specs.Escape.{escaped};
 
-use crate::escaping::is_plain_byte;
+use crate::escaping::is_plain_text;
 use crate::{NoMemory, Text, escape};
 use std::alloc::Global;
 
@@ -38,22 +37,4 @@ fn text_of(bytes: Vec<u8>) -> Text
         Some(text) => text,
         None => unreachable!(),
     }
-}
-
-// Whether a text is its own escaped form.
-fn is_plain_text(bytes: &[u8]) -> bool
-    ensures { result ≡ true → escaped bytes.now ≡ bytes.now }
-{
-    !bytes.is_empty() && are_plain(bytes)
-}
-
-fn are_plain(bytes: &[u8]) -> bool
-    ensures { result ≡ list_all is_plain bytes.now }
-{
-    for byte in bytes {
-        if !is_plain_byte(*byte) {
-            return false;
-        }
-    }
-    true
 }

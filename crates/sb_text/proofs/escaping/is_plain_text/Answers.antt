@@ -1,7 +1,7 @@
 use Rattle.std.proofs.Common.{◌<◌, ◌∙◌, sym, length, arith}
 use Rattle.std.proofs.lemmas.Bool.Decides.{nat_tests}
 use Rattle.sb_text.proofs.EscapedTexts.{escaped_plain}
-use Rattle.sb_text.proofs.printed.is_plain_text.Goals as goal
+use Rattle.sb_text.proofs.escaping.is_plain_text.Goals as goal
 
 pub returns-then-not-is_empty : goal.returns-then-not-is_empty
 returns-then-not-is_empty c = λ are.
