@@ -1,5 +1,5 @@
 -- What an addition keeps, so that it can be taken back.
-use Rattle.std.specs.Prelude.{◌≡◌, ℕ, ℤ, pos, List, [], take, Option}
+use Rattle.std.specs.Prelude.{◌≡◌, ℕ, ℤ, pos, Bool, true, false, ◌&&◌, List, [], take, Option}
 use Rattle.sb_gather.specs.Maps.{ValueBack}
 use Rattle.sb_gather.specs.Steps.{StepBack, StepsBack, TopStepBack}
 use Rattle.sb_sketch.specs.Undone.{CellsBack, RegistersBack}
@@ -85,6 +85,21 @@ entries_layer other = []
 -- the steps of a map
 abbrev pub entry_steps : Undone → List (ℕ × Option Undone)
 entry_steps u = entries_layer (out-Undone u)
+
+-- whether adding takes no memory, and so is never refused
+abbrev pub is_infallible : Monoid → Bool
+is_infallible sums = true
+is_infallible least = true
+is_infallible greatest = true
+is_infallible firsts = true
+is_infallible lasts = true
+is_infallible concats = false
+is_infallible sets = false
+is_infallible (tops k) = false
+is_infallible (sketches d w) = false
+is_infallible (registers b) = false
+is_infallible (pairs m n) = is_infallible m && is_infallible n
+is_infallible (maps m) = false
 
 -- what was kept takes the later element of a monoid back to the earlier one
 abbrev pub TakesBack : Monoid → Undone → Agg → Agg → Type 0

@@ -217,9 +217,9 @@ fn add_both(
     }
 }
 
-// Adds the entries of `more` by the cheaper way, and keeps the steps. A refusal leaves the list as it was.
+/// Adds the entries of `more` by the cheaper way, and keeps the steps. A refusal leaves the list as it was.
 #[cycle(add)]
-fn add_all(
+pub fn add_all(
     part: &Kind,
     alloc: Global,
     list: &mut Vec<(Val, Agg)>,

@@ -4,10 +4,10 @@ ghost use Rattle.sb_kind.specs.Elements.{IsOf, plus};
 ghost use Rattle.sb_kind.specs.KindView.{monoid_of};
 ghost use Rattle.sb_kind.specs.Monoids.{commutes};
 
-use crate::adding::add;
 use crate::agg::Agg;
 use crate::copying::copy;
 use crate::kind::{Kind, commutes};
+use crate::plus::plus;
 use sb_laws::{Commuting, NoMemory, Semigroup};
 use std::alloc::Global;
 
@@ -40,8 +40,7 @@ impl Semigroup for KindM {
     ghost associates = { λ m a b c p q r. associates (monoid_of m.kind) a b c p q r };
 
     fn plus(&self, alloc: Global, a: &mut Agg, b: Agg) -> Result<(), NoMemory> {
-        let _ = add(&self.kind, alloc, a, b)?;
-        Ok(())
+        plus(&self.kind, alloc, a, b)
     }
 
     fn copy(&self, alloc: Global, a: &Agg) -> Result<Agg, NoMemory> {
@@ -86,8 +85,7 @@ impl Semigroup for OnlineM {
     ghost associates = { λ m a b c p q r. associates (monoid_of m.kind) a b c p q r };
 
     fn plus(&self, alloc: Global, a: &mut Agg, b: Agg) -> Result<(), NoMemory> {
-        let _ = add(&self.kind, alloc, a, b)?;
-        Ok(())
+        plus(&self.kind, alloc, a, b)
     }
 
     fn copy(&self, alloc: Global, a: &Agg) -> Result<Agg, NoMemory> {

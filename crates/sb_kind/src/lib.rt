@@ -10,6 +10,7 @@ mod keyed;
 mod kind;
 mod many;
 mod parts;
+mod plus;
 mod prepared;
 mod reading;
 mod sorted;
