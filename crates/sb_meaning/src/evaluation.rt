@@ -24,6 +24,9 @@ pub fn value(alloc: Global, term: &Term, it: It<'_>) -> Result<Val, NoMemory>
         Term::It => it.copied(alloc),
         Term::Constant(constant) => copy(alloc, constant),
         Term::One(op, part) => {
+            if let Some(lent) = lent_part(*op, part.get(), it) {
+                return copy(alloc, lent);
+            }
             if let Some(lent) = lent(part.get(), it) {
                 return one_of(alloc, *op, lent);
             }

@@ -11,6 +11,10 @@ use std::alloc::{AllocError, Global};
 pub fn key_text(alloc: Global, key: &Val) -> Result<Text, NoMemory>
     ensures { IfOk result (λ text. text ≡ value_text (value_of key.now)) }
 {
+    // A text with nothing to escape is copied as it is.
+    if let Val::Text(key) = key {
+        return key.copy(alloc)?.escaped(alloc);
+    }
     let mut bytes = Vec::new(alloc);
     text(alloc, key, &mut bytes)?;
     text_of(bytes)
