@@ -13,9 +13,11 @@ ghost use Rattle.sb_job.specs.Sums.{AreKeySums};
 
 use crate::halving::halvings;
 use crate::key_sums::KeySums;
+use crate::seed::Seed;
 use sb_feed::{Family, Feed, RowList, Rows};
 use sb_laws::{NoMemory, Semigroup};
 use std::alloc::Global;
+use std::random::RandomSource;
 use std::thread::{Threads, join};
 
 const MOST_BATCHES: u64 = 1 << 16;
@@ -25,8 +27,9 @@ const FEW_POSITIONS: usize = 512;
 
 /// The rows of the batches from `from` on and below `to`: each key that their records add to, with its fold in log
 /// order. The dictionaries need not commute. Looks at the records of these batches alone; the positions of several
-/// batches are sorted first. Many records are added in as many parts as there are processors.
-pub fn job<R: Threads + Sync, M: Semigroup + Sync, F: Feed<M = M> + Sync>(
+/// batches are sorted first. Many records are added in as many parts as there are
+/// processors, each in a table of its own, whose seed is drawn.
+pub fn job<R: Threads + RandomSource + Sync, M: Semigroup + Sync, F: Feed<M = M> + Sync>(
     rt: &R,
     alloc: Global,
     feed: &F,
@@ -46,7 +49,7 @@ where
 }
 
 // The positions of one batch are there, in order.
-fn rows_between<R: Threads + Sync, M: Semigroup + Sync, F: Feed<M = M> + Sync>(
+fn rows_between<R: Threads + RandomSource + Sync, M: Semigroup + Sync, F: Feed<M = M> + Sync>(
     rt: &R,
     alloc: Global,
     feed: &F,
@@ -90,7 +93,7 @@ fn positions_between<F: Feed>(
 }
 
 // The sum of each key's parts in the records at these positions, as rows.
-fn rows_at<R: Threads + Sync, M: Semigroup + Sync, F: Feed<M = M> + Sync>(
+fn rows_at<R: Threads + RandomSource + Sync, M: Semigroup + Sync, F: Feed<M = M> + Sync>(
     rt: &R,
     alloc: Global,
     feed: &F,
@@ -105,7 +108,7 @@ where
         (keyed_values (flat_map (parts_at (F.records feed.now)) positions.now))) }
 {
     let depth = depth_of(rt, positions.len());
-    let sums = sum_halves(rt, alloc, feed, positions, depth)?;
+    let sums = sum_halves(rt, alloc, feed, positions, depth, Seed::drawn(rt))?;
     let rows = sums.into_rows(alloc)?;
     Ok(rows)
 }
@@ -128,6 +131,7 @@ fn sum_halves<R: Threads + Sync, M: Semigroup + Sync, F: Feed<M = M> + Sync>(
     feed: &F,
     positions: &[u64],
     depth: u32,
+    seed: Seed,
 ) -> Result<KeySums<M::El>, NoMemory>
 where
     M::El: Send + Sync,
@@ -138,7 +142,7 @@ where
         (keyed_values (flat_map (parts_at (F.records feed.now)) positions.now))) }
 {
     if depth == 0 || positions.len() < FEW_POSITIONS {
-        return sum_records(alloc, feed, positions);
+        return sum_records(alloc, feed, positions, seed);
     }
     let (first, second) = positions.split_at(positions.len() / 2);
     let less = depth - 1;
@@ -152,7 +156,7 @@ where
             ensures { IfOk result (AreKeySums
                 (meant M.valid M.add (F.monoids feed.entry.now)) (keyed_values
                 (flat_map (parts_at (F.records feed.entry.now)) first.entry.now))) }
-        { sum_halves(rt, alloc, feed, first, less) },
+        { sum_halves(rt, alloc, feed, first, less, seed) },
         || -> Result<KeySums<M::El>, NoMemory>
             requires { IsSync R.row × IsSync F.row
                 × AllByRecursion (IsRecord (meant M.valid M.add (F.monoids feed.now)))
@@ -161,7 +165,7 @@ where
             ensures { IfOk result (AreKeySums
                 (meant M.valid M.add (F.monoids feed.entry.now)) (keyed_values
                 (flat_map (parts_at (F.records feed.entry.now)) second.entry.now))) }
-        { sum_halves(rt, alloc, feed, second, less) },
+        { sum_halves(rt, alloc, feed, second, less, seed) },
     );
     add_behind(alloc, feed, first, second)
 }
@@ -198,6 +202,7 @@ fn sum_records<F: Feed>(
     alloc: Global,
     feed: &F,
     positions: &[u64],
+    seed: Seed,
 ) -> Result<KeySums<<F::M as Semigroup>::El>, NoMemory>
     requires records { AllByRecursion (IsRecord (meant F.M.valid F.M.add (F.monoids feed.now)))
         (F.records feed.now) }
@@ -205,7 +210,7 @@ fn sum_records<F: Feed>(
     ensures { IfOk result (AreKeySums (meant F.M.valid F.M.add (F.monoids feed.now))
         (keyed_values (flat_map (parts_at (F.records feed.now)) positions.now))) }
 {
-    let mut sums = KeySums::new(alloc);
+    let mut sums = KeySums::seeded(alloc, seed);
     let mut parts = Vec::new(alloc);
     for i in positions {
         feed.emit(alloc, *i, &mut parts)?;

@@ -11,6 +11,7 @@ ghost use Rattle.sb_feed.specs.Stands.{keyed_values};
 ghost use Rattle.sb_job.specs.Sums.{AddsValue, HasKeySums};
 
 use crate::key_set::KeySet;
+use crate::seed::Seed;
 use sb_feed::{Family, KeyBytes, Part, RowList};
 use sb_laws::{Key as _, NoMemory, Semigroup};
 use std::alloc::Global;
@@ -21,7 +22,7 @@ use std::marker::Model;
 /// The sum of each key that has a value, as it grows. Contracts see the keys with their sums, in no order.
 #[derive(Drop)]
 pub struct KeySums<E> {
-    sums: HashMap<KeyBytes, E>,
+    sums: HashMap<KeyBytes, E, Seed>,
 }
 
 impl<E> Model for KeySums<E> {
@@ -38,8 +39,15 @@ impl<E> KeySums<E> {
     pub fn new(alloc: Global) -> KeySums<E>
         ensures { result ≡ [] }
     {
+        KeySums::seeded(alloc, Seed::fixed())
+    }
+
+    /// No sums, in a table with this seed. No memory is taken.
+    pub fn seeded(alloc: Global, seed: Seed) -> KeySums<E>
+        ensures { result ≡ [] }
+    {
         KeySums {
-            sums: HashMap::new(alloc),
+            sums: HashMap::with_hasher(alloc, seed),
         }
     }
 
@@ -298,7 +306,7 @@ impl<E> KeySums<E> {
 
 fn entries_of<E: Drop>(
     alloc: Global,
-    sums: HashMap<KeyBytes, E>,
+    sums: HashMap<KeyBytes, E, Seed>,
 ) -> Result<Vec<(KeyBytes, E)>, NoMemory>
     ensures entries { IfOk result (λ rows. rows.items ≡ sums.entries) }
     ensures apart { IfOk result (λ _. IsDistinct same_key (keys_of sums.entries)) }

@@ -8,6 +8,7 @@ mod jobs;
 mod key_set;
 mod key_sums;
 mod lists;
+mod seed;
 mod splitting;
 
 pub use by_batch::{add_asked, is_key, push_found};
@@ -16,4 +17,5 @@ pub use jobs::job;
 pub use key_set::KeySet;
 pub use key_sums::KeySums;
 pub use lists::{drop_first, up_to};
+pub use seed::Seed;
 pub use splitting::{split_parcel, split_rows};

@@ -7,6 +7,7 @@ use anyhow::Context;
 use sb_io::{MemShelf, MemSink};
 use sb_run::summingbird;
 use std::alloc::Global;
+use std::random::RandomSource;
 use std::thread::Threads;
 
 // What a call gave.
@@ -42,7 +43,7 @@ fn shelf_of(alloc: Global, row: &Row, case: Option<&Case>) -> anyhow::Result<Mem
 }
 
 // The one place that makes the top call.
-fn run<R: Threads + Sync>(
+fn run<R: Threads + RandomSource + Sync>(
     rt: &R,
     alloc: Global,
     row: &Row,
@@ -60,7 +61,11 @@ fn run<R: Threads + Sync>(
 
 /// Runs a row. Prints `ok` and its title where each call gives what the row wants, and the
 /// definition's plain program the same sums; and else what differs first.
-pub fn agrees<R: Print + Threads + Sync>(rt: &R, alloc: Global, row: &Row) -> anyhow::Result<bool> {
+pub fn agrees<R: Print + Threads + RandomSource + Sync>(
+    rt: &R,
+    alloc: Global,
+    row: &Row,
+) -> anyhow::Result<bool> {
     if row.cases.is_empty() && !call_agrees(rt, alloc, row, None, &row.output)? {
         return Ok(false);
     }
@@ -78,7 +83,7 @@ pub fn agrees<R: Print + Threads + Sync>(rt: &R, alloc: Global, row: &Row) -> an
     Ok(true)
 }
 
-fn call_agrees<R: Print + Threads + Sync>(
+fn call_agrees<R: Print + Threads + RandomSource + Sync>(
     rt: &R,
     alloc: Global,
     row: &Row,
@@ -90,13 +95,11 @@ fn call_agrees<R: Print + Threads + Sync>(
         Some(words) => words,
         None => &row.words,
     };
-    let mut shelf = shelf_of(alloc, row, case)?;
-    let came = run(rt, alloc, row, words, &mut shelf)?;
-    if came.status != row.status || came.output.as_slice() != wanted {
-        println!(rt; "differs: {}", row.title)?;
-        println!(rt; "  status: wanted {}, came {}", row.status, came.status)?;
-        print_difference(rt, wanted, &came.output)?;
-        return Ok(false);
+    // Each call draws the seed of its tables anew, so that each log is run under two seeds.
+    for _ in 0..2 {
+        if !gives(rt, alloc, row, case, words, wanted)? {
+            return Ok(false);
+        }
     }
     if row.status != 0 {
         return Ok(true);
@@ -104,6 +107,26 @@ fn call_agrees<R: Print + Threads + Sync>(
     let mut shelf = shelf_of(alloc, row, case)?;
     let unlike = first_unlike(alloc, words, &row.files, &mut shelf, wanted);
     sums_agree(rt, row, unlike.context(format_args!("{}", row.title))?)
+}
+
+// Whether a call gives the status and the output that are wanted. What differs is printed.
+fn gives<R: Print + Threads + RandomSource + Sync>(
+    rt: &R,
+    alloc: Global,
+    row: &Row,
+    case: Option<&Case>,
+    words: &[String],
+    wanted: &[u8],
+) -> anyhow::Result<bool> {
+    let mut shelf = shelf_of(alloc, row, case)?;
+    let came = run(rt, alloc, row, words, &mut shelf)?;
+    if came.status == row.status && came.output.as_slice() == wanted {
+        return Ok(true);
+    }
+    println!(rt; "differs: {}", row.title)?;
+    println!(rt; "  status: wanted {}, came {}", row.status, came.status)?;
+    print_difference(rt, wanted, &came.output)?;
+    Ok(false)
 }
 
 // Whether no line of the report is unlike the plain program's, which is said where one is.

@@ -10,6 +10,7 @@ mod row;
 use anyhow::{Context, ensure};
 use checking::agrees;
 use reading::Reader;
+use std::random::RandomSource;
 use std::rt::{Env, Files};
 use std::thread::{Builder, Threads};
 use std::{env, fs, thread};
@@ -19,7 +20,10 @@ use std::{env, fs, thread};
 const STACK: usize = 64 << 20;
 
 // Runs the rows of a text, and tells how many differ.
-fn run_rows<R: Print + AllocGlobal + Threads + Sync>(rt: &R, text: &str) -> anyhow::Result<u64> {
+fn run_rows<R: Print + AllocGlobal + Threads + RandomSource + Sync>(
+    rt: &R,
+    text: &str,
+) -> anyhow::Result<u64> {
     let mut differing: u64 = 0;
     let mut reader = Reader::new(rt.alloc());
     let mut number: u64 = 0;
@@ -41,7 +45,9 @@ fn run_rows<R: Print + AllocGlobal + Threads + Sync>(rt: &R, text: &str) -> anyh
 }
 
 // Runs the rows of the files that the words name.
-fn run_files<R: Env + Files + Print + AllocGlobal + Threads + Sync>(rt: &R) -> anyhow::Result<u64> {
+fn run_files<R: Env + Files + Print + AllocGlobal + Threads + RandomSource + Sync>(
+    rt: &R,
+) -> anyhow::Result<u64> {
     let mut differing: u64 = 0;
     for name in env::args(rt)?.skip(1) {
         let text = fs::read_to_string(rt, name.as_str());

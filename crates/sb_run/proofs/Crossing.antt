@@ -12,6 +12,7 @@ use Rattle.std.proofs.result.Result.TheSendSync as Result
 use Rattle.sb_check.specs.contracts.log.LogError as error
 use Rattle.sb_check.proofs.log.LogError.TheSendSync as LogError
 use Rattle.sb_job.specs.contracts.key_sums.KeySums as sums
+use Rattle.sb_job.specs.contracts.seed.Seed as seed
 use Rattle.sb_job.proofs.key_sums.KeySums.TheSendSync as KeySums
 use Rattle.sb_kind.specs.contracts.agg.Agg as agg
 use Rattle.sb_kind.proofs.Crossing.{agg_send, agg_sync}
@@ -96,6 +97,10 @@ commuting_sync = search (TopM.the_sync, KindBoxed.the_sync, CmsM.the_sync, HllM.
 pub feed_sync : IsSync online_runner.the_row
 feed_sync = search (agg_sync, TopM.the_sync, KindBoxed.the_sync, BatchIndex.the_sync, Entry.the_sync, Stores.the_sync, CmsM.the_sync, HllM.the_sync, Vec.the_sync, crosses, Kinds.crosses, sendable) depth 60 fits 20000
 
+-- the seed of a table
+pub seed_sync : IsSync seed.the_row
+seed_sync = search sendable depth 60
+
 -- numbers and bytes
 pub number_sync : IsSync u64
 number_sync = search sendable
@@ -118,11 +123,11 @@ closure_send name captures all =
     let T = field_at name captures in
     recorded_send T.row T.Value T.into T.into_one (struct_send (shape (type_at name captures)) (parts_send captures all))
 
--- one that captures nine
-pub nine_send : (name : Sym) (A B C D E F G H I : RattleType) → IsSend A → IsSend B → IsSend C → IsSend D → IsSend E → IsSend F → IsSend G → IsSend H → IsSend I
-    → IsSend (TupleAt name (A ∷ B ∷ C ∷ D ∷ E ∷ F ∷ G ∷ H ∷ I ∷ []))
-nine_send name A B C D E F G H I a b c d e f g h i =
-    closure_send name (A ∷ B ∷ C ∷ D ∷ E ∷ F ∷ G ∷ H ∷ I ∷ []) (a, (b, (c, (d, (e, (f, (g, (h, (i, tt)))))))))
+-- one that captures ten
+pub ten_send : (name : Sym) (A B C D E F G H I J : RattleType) → IsSend A → IsSend B → IsSend C → IsSend D → IsSend E → IsSend F → IsSend G → IsSend H → IsSend I → IsSend J
+    → IsSend (TupleAt name (A ∷ B ∷ C ∷ D ∷ E ∷ F ∷ G ∷ H ∷ I ∷ J ∷ []))
+ten_send name A B C D E F G H I J a b c d e f g h i j =
+    closure_send name (A ∷ B ∷ C ∷ D ∷ E ∷ F ∷ G ∷ H ∷ I ∷ J ∷ []) (a, (b, (c, (d, (e, (f, (g, (h, (i, (j, tt))))))))))
 
 -- the sums of a log, or what is wrong with it
 pub sums_send : IsSend (result.the_row (sums.the_row agg.the_row) error.the_row)

@@ -1,13 +1,9 @@
 -- The sums of pieces of a log in a row.
-use Rattle.std.proofs.Common.{◌≡◌, ◌≤◌, ◌∙◌, ℕ, zero, suc, ◌<◌, true, List, [], ◌∷◌, ◌++◌, append-nil, length, take, drop, Option, Some, None, Ok, Err, refl, sym, ap, subst, arith}
-use Rattle.std.specs.Prelude.{Result, IfOk, IfSome, nat_le, slice_get}
-use Rattle.std.specs.Option.{option_copied}
-use Rattle.std.specs.Borrow.{Bor}
-use Rattle.std.specs.List.{AllByRecursion, flat_map}
+use Rattle.std.proofs.Common.{◌≡◌, ◌≤◌, ◌∙◌, ℕ, true, List, ◌++◌, length, Ok, Err, sym, ap, subst, arith}
+use Rattle.std.specs.Prelude.{Result, IfOk, nat_le}
 use Rattle.std.proofs.lemmas.Bool.Decides.{nat_tests}
-use Rattle.std.proofs.lemmas.List.{take-append-drop}
 use Rattle.std.proofs.lemmas.List.Concat.{flat_map-append}
-use Rattle.sb_text.specs.Lines.{Line, lines_of}
+use Rattle.sb_text.specs.Lines.{lines_of}
 use Rattle.sb_check.specs.Log.{LogFault, Logged, log_of, most_records, records_of}
 use Rattle.sb_check.specs.Programs.{CheckedProgram}
 use Rattle.sb_check.specs.declared.log.LogError.{LogError}
@@ -17,10 +13,8 @@ use Rattle.sb_feed.specs.declared.key.KeyBytes.{KeyBytes}
 use Rattle.sb_job.specs.Sums.{HasKeySums}
 use Rattle.sb_kind.specs.declared.agg.Agg.{Agg}
 use Rattle.sb_kind.specs.declared.dictionary.KindM.{KindM}
-use Rattle.sb_log.specs.PieceLines.{IsPiece, lines_in, piece_lines}
 use Rattle.sb_log.specs.Reading.{GivesLog, onto_log}
-use Rattle.sb_log.specs.declared.pieces.Piece.{Piece}
-use Rattle.sb_log.proofs.PieceLines.{records_append, room_for, room_is_limit}
+use Rattle.sb_log.proofs.PieceLines.{room_for, room_is_limit}
 use Rattle.sb_plan.specs.Given.{planned}
 use Rattle.sb_plan.specs.Runners.{StoresValue}
 use Rattle.sb_service.specs.Rows.{Rows}

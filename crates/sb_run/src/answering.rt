@@ -26,13 +26,14 @@ use sb_report::{Ask, TranscriptLine, write_line, write_row};
 use sb_session::Session;
 use sb_text::{NoMemory, Ranges, Text};
 use std::alloc::Global;
+use std::random::RandomSource;
 use std::thread::Threads;
 
 // The batch for which a plain read asks.
 const LAST_BATCH: u64 = 65_535;
 
 /// Answers the asks of a run over a feed of a program, drains its session and reports, each line in one put.
-pub fn answer_all<R: Threads + Sync, K: Sink>(
+pub fn answer_all<R: Threads + RandomSource + Sync, K: Sink>(
     rt: &R,
     alloc: Global,
     sink: &mut K,
@@ -60,7 +61,7 @@ pub fn answer_all<R: Threads + Sync, K: Sink>(
 }
 
 // Answers the asks in a session that begins.
-fn put_script<R: Threads + Sync, K: Sink>(
+fn put_script<R: Threads + RandomSource + Sync, K: Sink>(
     rt: &R,
     alloc: Global,
     sink: &mut K,
@@ -93,7 +94,7 @@ fn session_over(alloc: Global, feed: &OnlineRunner, cut: Cut) -> Result<Session<
     Session::new(alloc, feed, cut)
 }
 
-fn put_answers<R: Threads + Sync, K: Sink>(
+fn put_answers<R: Threads + RandomSource + Sync, K: Sink>(
     rt: &R,
     alloc: Global,
     sink: &mut K,
@@ -120,7 +121,7 @@ fn put_answers<R: Threads + Sync, K: Sink>(
     Ok(())
 }
 
-fn put_answer<R: Threads + Sync, K: Sink>(
+fn put_answer<R: Threads + RandomSource + Sync, K: Sink>(
     rt: &R,
     alloc: Global,
     sink: &mut K,
@@ -146,7 +147,7 @@ fn put_answer<R: Threads + Sync, K: Sink>(
 }
 
 // The line of an ask.
-fn answer<R: Threads + Sync>(
+fn answer<R: Threads + RandomSource + Sync>(
     rt: &R,
     alloc: Global,
     c: &Checked,
@@ -316,7 +317,7 @@ fn work(
     })
 }
 
-fn publish<R: Threads + Sync>(
+fn publish<R: Threads + RandomSource + Sync>(
     rt: &R,
     alloc: Global,
     c: &Checked,

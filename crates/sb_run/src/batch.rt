@@ -20,12 +20,13 @@ use sb_plan::Runner;
 use sb_service::Service;
 use sb_words::Command;
 use std::alloc::Global;
+use std::random::RandomSource;
 use std::thread::Threads;
 
 /// Does what the words of this `batch` command say: it writes the report, for each store of the program each key with an
 /// emission, in rising order of its text's bytes, with its sum over the whole log. The log is folded while it is read, on
 /// all processors, and nothing is written before its last line was good. The status is that of the top call.
-pub fn batch_command<R: Threads + Sync, H: Shelf, K: Sink>(
+pub fn batch_command<R: Threads + RandomSource + Sync, H: Shelf, K: Sink>(
     rt: &R,
     alloc: Global,
     command: &Command,
@@ -44,7 +45,7 @@ pub fn batch_command<R: Threads + Sync, H: Shelf, K: Sink>(
 }
 
 // Puts the report, or the line of a log that isn't read.
-fn put_answer<R: Threads + Sync, K: Sink>(
+fn put_answer<R: Threads + RandomSource + Sync, K: Sink>(
     rt: &R,
     alloc: Global,
     sink: &mut K,
@@ -61,7 +62,7 @@ fn put_answer<R: Threads + Sync, K: Sink>(
     }
 }
 
-fn put_sums<R: Threads + Sync, K: Sink>(
+fn put_sums<R: Threads + RandomSource + Sync, K: Sink>(
     rt: &R,
     alloc: Global,
     sink: &mut K,

@@ -29,11 +29,12 @@ use sb_report::Ask;
 use sb_service::Service;
 use sb_words::Command;
 use std::alloc::Global;
+use std::random::RandomSource;
 use std::thread::Threads;
 
 /// Does what the words of this `run` command say: it answers the asks of the script one by one, each in one line, and
 /// then writes the report. The status is that of the top call.
-pub fn run_command<R: Threads + Sync, H: Shelf, K: Sink>(
+pub fn run_command<R: Threads + RandomSource + Sync, H: Shelf, K: Sink>(
     rt: &R,
     alloc: Global,
     command: &Command,
@@ -81,7 +82,7 @@ fn shards_in(command: &Command) -> u32
     }
 }
 
-fn put_transcript<R: Threads + Sync, K: Sink>(
+fn put_transcript<R: Threads + RandomSource + Sync, K: Sink>(
     rt: &R,
     alloc: Global,
     sink: &mut K,
@@ -126,7 +127,7 @@ fn put_transcript<R: Threads + Sync, K: Sink>(
     }
 }
 
-fn answer_script<R: Threads + Sync, K: Sink>(
+fn answer_script<R: Threads + RandomSource + Sync, K: Sink>(
     rt: &R,
     alloc: Global,
     sink: &mut K,

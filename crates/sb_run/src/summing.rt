@@ -27,7 +27,7 @@ ghost use Rattle.sb_types.specs.ValView.{value_of};
 
 use sb_check::{Checked, LogError};
 use sb_feed::{Family, KeyBytes, RowList};
-use sb_job::{KeySums, halvings};
+use sb_job::{KeySums, Seed, halvings};
 use sb_kind::Agg;
 use sb_laws::Steps;
 use sb_log::{Piece, Records};
@@ -37,12 +37,13 @@ use sb_text::{NoMemory, Text};
 use sb_types::{LogRecord, Val};
 use std::alloc::Global;
 use std::marker::Brand;
+use std::random::RandomSource;
 use std::sync::ledger::{Blank, Ledger};
 use std::thread::{Threads, join};
 
 /// The sum of each key of each store over the log of a text. The log is folded while it is read, in as many pieces as there
 /// are processors.
-pub fn sum_log<R: Threads + Sync>(
+pub fn sum_log<R: Threads + RandomSource + Sync>(
     rt: &R,
     alloc: Global,
     c: &Checked,
@@ -71,7 +72,7 @@ fn rows_of(alloc: Global, sums: KeySums<Agg>) -> Result<RowList<Agg>, LogError>
 }
 
 // Adds the records of a text. One with too many lines is read from its front, for the first bad line.
-fn add_text<R: Threads + Sync>(
+fn add_text<R: Threads + RandomSource + Sync>(
     rt: &R,
     alloc: Global,
     c: &Checked,
@@ -86,8 +87,9 @@ fn add_text<R: Threads + Sync>(
     let Ok(piece) = Piece::whole(log) else {
         return Err(LogError::NoMemory);
     };
+    let seed = Seed::drawn(rt);
     if !piece.fits() {
-        return add_records(alloc, c, runner, services, Records::new(c, log));
+        return add_records(alloc, c, runner, services, Records::new(c, log), seed);
     }
     let Piece {
         before,
@@ -104,6 +106,7 @@ fn add_text<R: Threads + Sync>(
         lines,
         bytes,
         halvings(rt),
+        seed,
     )
 }
 
@@ -120,6 +123,7 @@ fn add_halves<R: Threads + Sync>(
     lines: u64,
     bytes: &[u8],
     depth: u32,
+    seed: Seed,
 ) -> Result<KeySums<Agg>, LogError>
     requires stores { AreStores (checked_of c.now) kind_monoid runner.now }
     requires piece { lines ≡ length (lines_from (before + 1) bytes.now) }
@@ -132,7 +136,14 @@ fn add_halves<R: Threads + Sync>(
         bytes,
     };
     if depth == 0 {
-        return add_records(alloc, c, runner, services, Records::of_piece(c, piece));
+        return add_records(
+            alloc,
+            c,
+            runner,
+            services,
+            Records::of_piece(c, piece),
+            seed,
+        );
     }
     let Ok((first, second)) = piece.split(bytes.len() / 2) else {
         return Err(LogError::NoMemory);
@@ -148,14 +159,22 @@ fn add_halves<R: Threads + Sync>(
             ensures { GivesSums (checked_of c.entry.now) (map view_service services.entry.now)
                 runner.entry.now (records_of (checked_of c.entry.now)
                 (lines_from (start + 1) first.entry.now)) result }
-        { add_halves(rt, alloc, c, runner, services, start, count, first, less) },
+        {
+            add_halves(
+                rt, alloc, c, runner, services, start, count, first, less, seed,
+            )
+        },
         || -> Result<KeySums<Agg>, LogError>
             requires { IsSync R.row × AreStores (checked_of c.now) kind_monoid runner.now
                 × (rest ≡ length (lines_from (behind + 1) second.now)) }
             ensures { GivesSums (checked_of c.entry.now) (map view_service services.entry.now)
                 runner.entry.now (records_of (checked_of c.entry.now)
                 (lines_from (behind + 1) second.entry.now)) result }
-        { add_halves(rt, alloc, c, runner, services, behind, rest, second, less) },
+        {
+            add_halves(
+                rt, alloc, c, runner, services, behind, rest, second, less, seed,
+            )
+        },
     );
     add_behind(alloc, runner, first, second)
 }
@@ -189,6 +208,7 @@ fn add_records(
     runner: &Runner,
     services: &[Service],
     records: Records<'_>,
+    seed: Seed,
 ) -> Result<KeySums<Agg>, LogError>
     requires stores { AreStores (checked_of c.now) kind_monoid runner.now }
     requires program { program_of records ≡ checked_of c.now }
@@ -196,7 +216,7 @@ fn add_records(
         (left_of records.entry) result }
 {
     match plan_of(alloc, c) {
-        Ok(plan) => add_by_plan(alloc, c, runner, &plan, services, records),
+        Ok(plan) => add_by_plan(alloc, c, runner, &plan, services, records, seed),
         Err(_) => Err(LogError::NoMemory),
     }
 }
@@ -208,6 +228,7 @@ fn add_by_plan(
     plan: &Plan<'_>,
     services: &[Service],
     records: Records<'_>,
+    seed: Seed,
 ) -> Result<KeySums<Agg>, LogError>
     requires stores { AreStores (checked_of c.now) kind_monoid runner.now }
     requires plan { plan_value plan.now ≡ planned (checked_of c.now) }
@@ -215,7 +236,16 @@ fn add_by_plan(
     ensures { GivesLog (AreSummed (checked_of c.now) (map view_service services.now) runner.now)
         (left_of records.entry) result }
 {
-    add_counted::<Brand>(alloc, c, runner, plan, services, records, Blank::new(1))
+    add_counted::<Brand>(
+        alloc,
+        c,
+        runner,
+        plan,
+        services,
+        records,
+        seed,
+        Blank::new(1),
+    )
 }
 
 fn add_counted<L: Ledger>(
@@ -225,6 +255,7 @@ fn add_counted<L: Ledger>(
     plan: &Plan<'_>,
     services: &[Service],
     mut records: Records<'_>,
+    seed: Seed,
     blank: Blank,
 ) -> Result<KeySums<Agg>, LogError>
     requires stores { AreStores (checked_of c.now) kind_monoid runner.now }
@@ -237,7 +268,7 @@ fn add_counted<L: Ledger>(
 {
     let (book, share) = blank.open::<L>();
     let mut steps = Steps::new(book, share);
-    let mut sums = KeySums::new(alloc);
+    let mut sums = KeySums::seeded(alloc, seed);
     let mut fed = Vec::new(alloc);
     while let Some(logged) = records.next_record(alloc)? {
         let added = add_record(

@@ -14,13 +14,14 @@ use sb_io::{Shelf, Sink};
 use sb_load::Refusal;
 use sb_words::{Command, Settings, WordsError};
 use std::alloc::Global;
+use std::random::RandomSource;
 use std::thread::Threads;
 
 /// Does what the words of a command line say, without the program's own name: reads the files that they name from the
 /// shelf, and writes to the sink. The answer is the status: 0 done, 2 no command, 3 a fault of the shelf, 4 a fault of
 /// the sink, 5 want of memory, 6 a program that isn't accepted, 7 a log that isn't, 8 a script that isn't, 9 a service that
 /// isn't. A refusal's line is written, but at 4.
-pub fn summingbird<R: Threads + Sync, H: Shelf, K: Sink>(
+pub fn summingbird<R: Threads + RandomSource + Sync, H: Shelf, K: Sink>(
     rt: &R,
     alloc: Global,
     words: &[String],
@@ -51,7 +52,7 @@ pub fn summingbird<R: Threads + Sync, H: Shelf, K: Sink>(
 }
 
 // Does what a command says.
-fn carry_out<R: Threads + Sync, H: Shelf, K: Sink>(
+fn carry_out<R: Threads + RandomSource + Sync, H: Shelf, K: Sink>(
     rt: &R,
     alloc: Global,
     shelf: &mut H,

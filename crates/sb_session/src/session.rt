@@ -19,6 +19,7 @@ use sb_shard::{AskError, Shard};
 use sb_text::Ranges;
 use std::alloc::{AllocError, Global};
 use std::marker::Model;
+use std::random::RandomSource;
 use std::thread::Threads;
 
 /// The shards of a cut, into which the chunks of a feed are worked from the first on, and in which its batches are
@@ -275,13 +276,11 @@ impl<E: Drop> Session<E> {
 
     /// Publishes the batches of the log below this one that aren't published yet. The records of a large batch are added on
     /// all processors.
-    pub fn publish<R: Threads + Sync, M: Commuting<El = E> + Sync, F: Feed<M = M> + Sync>(
-        &mut self,
-        rt: &R,
-        alloc: Global,
-        feed: &F,
-        upto: u64,
-    ) -> Result<(), NoMemory>
+    pub fn publish<
+        R: Threads + RandomSource + Sync,
+        M: Commuting<El = E> + Sync,
+        F: Feed<M = M> + Sync,
+    >(&mut self, rt: &R, alloc: Global, feed: &F, upto: u64) -> Result<(), NoMemory>
     where
         E: Send + Sync,
         requires over { IsOver M.valid M.add (F.monoids feed.now) (F.records feed.now)
@@ -303,13 +302,11 @@ impl<E: Drop> Session<E> {
     }
 
     // Publishes the next batch, which has this number, in each shard.
-    fn publish_next<R: Threads + Sync, M: Commuting<El = E> + Sync, F: Feed<M = M> + Sync>(
-        &mut self,
-        rt: &R,
-        alloc: Global,
-        feed: &F,
-        batch: u64,
-    ) -> Result<(), NoMemory>
+    fn publish_next<
+        R: Threads + RandomSource + Sync,
+        M: Commuting<El = E> + Sync,
+        F: Feed<M = M> + Sync,
+    >(&mut self, rt: &R, alloc: Global, feed: &F, batch: u64) -> Result<(), NoMemory>
     where
         E: Send + Sync,
         requires over { IsOver M.valid M.add (F.monoids feed.now) (F.records feed.now)

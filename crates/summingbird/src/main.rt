@@ -4,6 +4,7 @@
 use sb_io::{FsShelf, StdSink};
 use sb_run::summingbird;
 use std::process::ExitCode;
+use std::random::RandomSource;
 use std::rt::{Env, Files};
 use std::thread::Threads;
 use std::{env, io};
@@ -12,7 +13,7 @@ use std::{env, io};
 const NO_MEMORY: u8 = 5;
 
 // Runs the words behind the program's name; `None` where they find no memory.
-fn run<R: Env + Files + Print + AllocGlobal + Threads + Sync>(rt: &R) -> Option<u8> {
+fn run<R: Env + Files + Print + AllocGlobal + Threads + RandomSource + Sync>(rt: &R) -> Option<u8> {
     let mut words = Vec::new(rt.alloc());
     for word in env::args(rt).ok()?.skip(1) {
         words.push(word).ok()?;

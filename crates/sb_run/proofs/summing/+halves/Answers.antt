@@ -11,18 +11,19 @@ use Rattle.sb_check.specs.contracts.checked.Checked as checked
 use Rattle.sb_log.specs.PieceLines.{piece_lines}
 use Rattle.sb_log.specs.Reading.{GivesLog}
 use Rattle.sb_log.proofs.PieceLines.{records_append}
+use Rattle.sb_job.specs.contracts.seed.Seed as seed
 use Rattle.sb_plan.specs.contracts.batch_runner.Runner as runner
 use Rattle.sb_service.specs.Views.{view_service}
 use Rattle.sb_service.specs.contracts.service.Service as service
 use Rattle.sb_run.specs.Batching.{AreSummed}
-use Rattle.sb_run.proofs.Crossing.{byte_sync, checked_sync, depth_sync, nine_send, number_sync, runner_sync, service_sync, sums_send}
+use Rattle.sb_run.proofs.Crossing.{byte_sync, checked_sync, depth_sync, number_sync, runner_sync, seed_sync, service_sync, sums_send, ten_send}
 use Rattle.sb_run.proofs.PieceSums.{given_valid}
 use Rattle.sb_run.proofs.summing.+halves.Goals as goal
 
 pub join-first-requires-send-F : goal.join-first-requires-send-F
 join-first-requires-send-F g t c κs within =
     let shared : IsSync (param 0 g.row.R) = search rules parts 8 in
-    param_send 1 _ (arg_send _ no _ (nine_send _ _ _ _ _ _ _ _ _ _
+    param_send 1 _ (arg_send _ no _ (ten_send _ _ _ _ _ _ _ _ _ _ _
     (shr_send _ _ (param 0 g.row.R) shared)
     (shr_send _ _ global.the_row Global.the_sync)
     (shr_send _ _ checked.the_row checked_sync)
@@ -31,7 +32,8 @@ join-first-requires-send-F g t c κs within =
     (shr_send _ _ u64 number_sync)
     (shr_send _ _ u64 number_sync)
     (shr_slice_send _ _ u8 byte_sync)
-    (shr_send _ _ u32 depth_sync)))
+    (shr_send _ _ u32 depth_sync)
+    (shr_send _ _ seed.the_row seed_sync)))
 
 pub join-first-requires-send-A : goal.join-first-requires-send-A
 join-first-requires-send-A g t c κs within = param_send 3 _ (arg_send _ no _ sums_send)

@@ -1,4 +1,4 @@
-use Rattle.std.proofs.Common.{ℕ, ◌+◌, ◌*◌}
+use Rattle.std.proofs.Common.{◌+◌, ◌*◌}
 use Rattle.sb_run.proofs.summing.+halves.Given as goal
 
 -- a half is halved once less, and a closure stands between the two calls

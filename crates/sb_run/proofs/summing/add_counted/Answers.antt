@@ -19,7 +19,7 @@ pub loop-fed-init : goal.loop-fed-init
 loop-fed-init g c =
     let p = checked_of c.args.c.now in
     let services = map view_service c.args.services.now in
-    let none = sym c.new-sums.ensures in
+    let none = sym c.seeded-sums.ensures in
     record {
       program = c.requires.program;
       none = c.new-fed.ensures.items;
