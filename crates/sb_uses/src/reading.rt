@@ -68,6 +68,13 @@ fn values_are_read(rt: HostRuntime) -> Result<(), Fail> {
     let texts = ["{[]}", "{[(a%7D,~),(%,+1)]}"].as_slice();
     are_values(&rt, alloc, &record_type(alloc)?, texts)?;
     equal(&rt, value_again(alloc, &Ty::Int, b"07")?.len(), 0);
+    equal(&rt, value_again(alloc, &Ty::Int, b"7,")?.len(), 0);
+    let longer = b"{[(a,~),(b,~),(c,~),(d,~)]}".as_slice();
+    equal(
+        &rt,
+        value_again(alloc, &record_type(alloc)?, longer)?.len(),
+        0,
+    );
     Ok(())
 }
 

@@ -65,6 +65,7 @@ fn sets_print_their_maximal_ranges(rt: HostRuntime) -> Result<(), Fail> {
         both.union(&set(alloc, right.as_slice())?)?;
         expect_text(&rt, alloc, &both, text)?;
     }
+    expect_text(&rt, alloc, &set(alloc, [7, 6, 5].as_slice())?, "5-7")?;
     expect_text(&rt, alloc, &Ranges::new(alloc), "none")?;
     for text in ["", "0", "0-1,2-3", "3-2", "00-1", "0-4294967296"] {
         holds(&rt, Ranges::read(alloc, text.as_bytes())?.is_none());

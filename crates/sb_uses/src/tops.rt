@@ -9,6 +9,12 @@ const A: i64 = 97;
 const B: i64 = 98;
 
 #[test]
+fn a_top_has_at_most_1024_places(rt: HostRuntime) {
+    holds(&rt, TopM::<i64>::new(1024).is_some());
+    holds(&rt, TopM::<i64>::new(1025).is_none());
+}
+
+#[test]
 fn ties_go_by_item(rt: HostRuntime) -> Result<(), Fail> {
     let alloc = rt.alloc();
     let Some(m) = TopM::<i64>::new(2) else {
