@@ -2,8 +2,8 @@
 use std::hash::{BuildHasher, DefaultHasher, RandomState};
 use std::random::RandomSource;
 
-/// What the hashes of a table's keys begin with (SipHash-1-3). Where it is drawn, whoever chooses the keys of a log can't
-/// choose them so that they collide. No output depends on it.
+/// What the hashes of a table's keys begin with (SipHash-1-3). Where it is drawn, nobody who chooses keys can choose such as
+/// collide. No output depends on it.
 #[derive(Clone, Copy)]
 pub struct Seed {
     initial: DefaultHasher,
